@@ -1,0 +1,9 @@
+-- The definitions of this crate.
+pub mod Bits
+pub mod Card
+pub mod Checksum
+pub mod Lexicon
+pub mod Line
+pub mod NumberWords
+pub mod Reading
+pub mod Words

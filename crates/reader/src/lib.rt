@@ -1,0 +1,12 @@
+//! Reads one card: from the bytes of a typed line to the fields of the card, or the refusal that is due.
+mod bits;
+pub mod card;
+pub mod checksum;
+mod decoding;
+pub mod lexicon;
+pub mod line;
+pub mod number_lexicon;
+pub mod reading;
+pub mod value;
+pub mod word;
+mod words;

@@ -1,0 +1,4 @@
+-- The definitions of the crate `refusal`.
+pub mod Layers
+pub mod Fields
+pub mod Refusals
