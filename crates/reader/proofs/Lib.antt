@@ -2,7 +2,6 @@
 pub mod BitFields
 pub mod CheckedFields
 pub mod ChecksumDetects
-pub mod ChecksumExamples
 pub mod ChecksumPolynomial
 pub mod ChecksumRemainder
 pub mod ChecksumRoots

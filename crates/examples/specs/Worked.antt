@@ -1,0 +1,55 @@
+-- The worked examples: a table of what the definitions give, with what they should give.
+use mathlib.Core.Path.{_≡_}
+use mathlib.Core.Bool.{Bool, cond}
+use mathlib.Core.List.{List, [], _∷_, map}
+use Prim.Native.Nat.{ℕ, _+_}
+use Rattle.std.specs.shelf.Lists.{All}
+use Rattle.std.specs.declared.result.Result.{Result}
+use Rattle.std.specs.declared.result.Result.the-variants.{Ok, Err}
+use Rattle.field.specs.Gf1024.{element, product}
+use Rattle.refusal.specs.declared.Refusal.{Refusal}
+use Rattle.refusal.specs.declared.Refusal.the-variants.{WordCount}
+use Rattle.refusal.specs.Refusals.{numberOf}
+use Rattle.reader.specs.Card.{Fields}
+use Rattle.reader.specs.Checksum.{checkWordsOf}
+use Rattle.reader.specs.Reading.{require, countFits, fieldsIn}
+
+-- what is computed, and what it should be
+pub record Row : Type 0 where
+  pub given : List ℕ
+  pub wanted : List ℕ
+
+abbrev row : List ℕ → List ℕ → Row
+row given wanted = record { given = given; wanted = wanted }
+
+-- the product of two elements of GF(1024), by their values
+abbrev times1024 : ℕ → ℕ → ℕ
+times1024 a b = product (element a) (element b) .value
+
+-- the fields in the order of their bits, but for the value
+abbrev fieldNumbers : Fields → List ℕ
+fieldNumbers f =
+    f .identifier ∷ cond (f .extendable) 1 0 ∷ f .exponent ∷ f .group ∷ f .groupThreshold ∷ f .groupCount ∷ f .member ∷ f .memberThreshold ∷ []
+
+-- the number of the refusal that a count of words gets, or 0
+abbrev refusedCount : ℕ → ℕ
+refusedCount n = number (require (countFits n) (WordCount n) (Ok tt))
+  where
+    number : Result (Unit {0}) Refusal → ℕ
+    number (Ok _) = 0
+    number (Err refusal) = numberOf refusal
+
+abbrev pub table : List Row
+table =
+    row (times1024 2 512 ∷ []) (9 ∷ [])
+    ∷ row (times1024 64 64 ∷ []) (36 ∷ [])
+    -- no string and no words
+    ∷ row (checkWordsOf []) (14 ∷ 56 ∷ 65 ∷ [])
+    -- identifier 5, flag 0, exponent 1, group 2, group threshold 2, group count 3, member 4, member threshold 3
+    ∷ row (fieldNumbers (fieldsIn (0 ∷ 161 ∷ 132 ∷ 578 ∷ []))) (5 ∷ 0 ∷ 1 ∷ 2 ∷ 2 ∷ 3 ∷ 4 ∷ 3 ∷ [])
+    ∷ row (map refusedCount (20 ∷ 22 ∷ 33 ∷ 59 ∷ [])) (0 ∷ 0 ∷ 0 ∷ 0 ∷ [])
+    ∷ row (map refusedCount (19 ∷ 21 ∷ 60 ∷ [])) (4 ∷ 4 ∷ 4 ∷ [])
+    ∷ []
+
+abbrev pub WorkedExamples : Type 0
+WorkedExamples = All (λ r. r .given ≡ r .wanted) table
