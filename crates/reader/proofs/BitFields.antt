@@ -2,7 +2,7 @@
 use mathlib.Core.Path.{_≡_, refl, sym, ap, ap₂, subst, _∙_}
 use mathlib.Core.List.{List, [], _∷_, _++_}
 use Prim.Native.Nat.{ℕ, zero, suc, _+_, _-_, _*_, _/_, _%_, _^_, _<_, _≤_}
-use native.Mathlib.Nat.{mul-assoc, mul-comm, add-mul, add-assoc, add-zero, zero-mul, zero-add, mul-one, pow-zero, pow-suc, mul-add-div-right, mul-add-mod-self-right, not-suc-le-zero, le-of-suc-le-suc}
+use native.Mathlib.Nat.{mul-assoc, mul-comm, add-mul, add-assoc, add-zero, mul-zero, mul-suc, mul-add, zero-mul, zero-add, mul-one, pow-zero, pow-suc, mul-add-div-right, mul-add-mod-self-right, not-suc-le-zero, le-of-suc-le-suc}
 use native.Mathlib.Omega.{arith}
 use lib.ListN.{length, getD, take, drop, length-drop}
 use Rattle.std.specs.shelf.Digits.{number, numberAfter, Under}
@@ -11,7 +11,7 @@ use Rattle.std.proofs.shelf.Digits.{numberAfter-append, number-lt}
 use Rattle.std.proofs.shelf.Elements.{all-drop, all-getD}
 use Rattle.std.proofs.shelf.Lists.{take-append-drop, drop-more, getD-map}
 use Rattle.field.specs.declared.gf1024.Gf1024.{Gf1024}
-use Rattle.reader.specs.Bits.{bitsAt, values}
+use Rattle.reader.specs.Bits.{bitsIn, bitsAt, values}
 use Rattle.reader.specs.Reading.{bytesAt}
 
 pub numberAfter-split : (b n : ℕ) (ys : List ℕ) → numberAfter b n ys ≡ n * b ^ length ys + number b ys
@@ -29,69 +29,79 @@ numberAfter-split b n (y ∷ ys) =
 pub number-append : (b : ℕ) (xs ys : List ℕ) → number b (xs ++ ys) ≡ number b xs * b ^ length ys + number b ys
 number-append b xs ys = numberAfter-append b 0 xs ys ∙ numberAfter-split b (number b xs) ys
 
-pub ten-bits : (k : ℕ) → 1024 ^ k ≡ 2 ^ (10 * k)
-ten-bits zero = pow-zero 1024
-ten-bits (suc k) =
-    let n : 10 * suc k ≡ 10 * k + 10 = omega arith in
-    pow-suc 1024 k ∙ ap (λ m. m * 1024) (ten-bits k) ∙ sym (pow-add 2 (10 * k) 10) ∙ ap (λ m. 2 ^ m) (sym n)
+-- width bits a digit
+pub power-of : (width k : ℕ) → (2 ^ width) ^ k ≡ 2 ^ (width * k)
+power-of width zero = pow-zero (2 ^ width) ∙ ap (λ m. 2 ^ m) (sym (mul-zero width))
+power-of width (suc k) =
+    let n : width * suc k ≡ width * k + width = mul-suc width k in
+    pow-suc (2 ^ width) k ∙ ap (λ m. m * 2 ^ width) (power-of width k) ∙ sym (pow-add 2 (width * k) width) ∙ ap (λ m. 2 ^ m) (sym n)
 
--- two neighbouring words, with what stands before and after them
-two-words : (ws : List ℕ) (i : ℕ) → i + 1 < length ws
-    → number 1024 ws ≡ (number 1024 (take i ws) * 1048576 + (getD ws i 0 * 1024 + getD ws (i + 1) 0)) * 2 ^ (10 * (length ws - (i + 2))) + number 1024 (drop (i + 2) ws)
-two-words ws i h =
-    let a = getD ws i 0 in
-    let b = getD ws (i + 1) 0 in
-    let rest = drop (i + 2) ws in
-    let A = number 1024 (take i ws) in
-    let P = 1024 ^ length rest in
-    let R = number 1024 rest in
-    let near : drop i ws ≡ a ∷ b ∷ rest =
-    drop-more ws i 0 (omega arith) ∙ ap (λ l. a ∷ l) (drop-more ws (i + 1) 0 h ∙ ap (λ n. b ∷ drop n ws) (omega arith)) in
-    let whole : number 1024 ws ≡ number 1024 (take i ws ++ (a ∷ b ∷ rest)) =
-    ap (number 1024) (sym (take-append-drop i ws) ∙ ap (λ l. take i ws ++ l) near) in
-    let joined : number 1024 (take i ws ++ (a ∷ b ∷ rest)) ≡ A * 1024 ^ suc (suc (length rest)) + number 1024 (a ∷ b ∷ rest) =
-    number-append 1024 (take i ws) (a ∷ b ∷ rest) in
-    let pair : number 1024 (a ∷ b ∷ rest) ≡ (a * 1024 + b) * P + R =
-    numberAfter-split 1024 ((0 + a) * 1024 + b) rest ∙ ap (λ n. (n * 1024 + b) * P + R) (zero-add a) in
-    let power : 1024 ^ suc (suc (length rest)) ≡ 1048576 * P =
-    pow-suc 1024 (suc (length rest)) ∙ ap (λ m. m * 1024) (pow-suc 1024 (length rest)) ∙ mul-assoc P 1024 1024 ∙ mul-comm P 1048576 in
-    let high : A * 1024 ^ suc (suc (length rest)) ≡ A * 1048576 * P = ap (λ m. A * m) power ∙ sym (mul-assoc A 1048576 P) in
-    let both : (A * 1048576 + (a * 1024 + b)) * P ≡ A * 1048576 * P + (a * 1024 + b) * P = add-mul (A * 1048576) (a * 1024 + b) P in
-    let size : P ≡ 2 ^ (10 * (length ws - (i + 2))) = ten-bits (length rest) ∙ ap (λ n. 2 ^ (10 * n)) (length-drop (i + 2) ws) in
-    let sum : number 1024 ws ≡ (A * 1048576 + (a * 1024 + b)) * P + R = omega arith in
-    sum ∙ ap (λ m. (A * 1048576 + (a * 1024 + b)) * m + R) size
+module _ (width : ℕ) where
+  abbrev base : ℕ
+  base = 2 ^ width
+
+  -- two neighbouring digits, with what stands before and after them
+  two-digits : (ds : List ℕ) (i : ℕ) → i + 1 < length ds
+      → number base ds ≡ (number base (take i ds) * 2 ^ (width + width) + (getD ds i 0 * base + getD ds (i + 1) 0)) * 2 ^ (width * (length ds - (i + 2))) + number base (drop (i + 2) ds)
+  two-digits ds i h =
+      let a = getD ds i 0 in
+      let b = getD ds (i + 1) 0 in
+      let rest = drop (i + 2) ds in
+      let A = number base (take i ds) in
+      let P = base ^ length rest in
+      let R = number base rest in
+      let near : drop i ds ≡ a ∷ b ∷ rest =
+      drop-more ds i 0 (omega arith) ∙ ap (λ l. a ∷ l) (drop-more ds (i + 1) 0 h ∙ ap (λ n. b ∷ drop n ds) (omega arith)) in
+      let whole : number base ds ≡ number base (take i ds ++ (a ∷ b ∷ rest)) =
+      ap (number base) (sym (take-append-drop i ds) ∙ ap (λ l. take i ds ++ l) near) in
+      let joined : number base (take i ds ++ (a ∷ b ∷ rest)) ≡ A * base ^ suc (suc (length rest)) + number base (a ∷ b ∷ rest) =
+      number-append base (take i ds) (a ∷ b ∷ rest) in
+      let pair : number base (a ∷ b ∷ rest) ≡ (a * base + b) * P + R =
+      numberAfter-split base ((0 * base + a) * base + b) rest ∙ ap (λ n. (n * base + b) * P + R) (ap (λ n. n + a) (zero-mul base) ∙ zero-add a) in
+      let power : base ^ suc (suc (length rest)) ≡ 2 ^ (width + width) * P =
+      pow-suc base (suc (length rest)) ∙ ap (λ m. m * base) (pow-suc base (length rest)) ∙ mul-assoc P base base ∙ mul-comm P (base * base) ∙ ap (λ m. m * P) (sym (pow-add 2 width width)) in
+      let high : A * base ^ suc (suc (length rest)) ≡ A * 2 ^ (width + width) * P = ap (λ m. A * m) power ∙ sym (mul-assoc A (2 ^ (width + width)) P) in
+      let both : (A * 2 ^ (width + width) + (a * base + b)) * P ≡ A * 2 ^ (width + width) * P + (a * base + b) * P = add-mul (A * 2 ^ (width + width)) (a * base + b) P in
+      let size : P ≡ 2 ^ (width * (length ds - (i + 2))) = power-of width (length rest) ∙ ap (λ n. 2 ^ (width * n)) (length-drop (i + 2) ds) in
+      whole ∙ joined ∙ ap₂ (λ m n. m + n) high pair
+      ∙ sym (add-assoc (A * 2 ^ (width + width) * P) ((a * base + b) * P) R)
+      ∙ ap (λ m. m + R) (sym both)
+      ∙ ap (λ m. (A * 2 ^ (width + width) + (a * base + b)) * m + R) size
 
 -- the bits of the pair, with more before and after
-picked : (A pair R m off count after : ℕ) → R < 2 ^ m → off + count + after ≡ 20
-    → ((A * 1048576 + pair) * 2 ^ m + R) / 2 ^ (m + after) % 2 ^ count ≡ pair / 2 ^ after % 2 ^ count
-picked A pair R m off count after r e =
-    let whole : 1048576 ≡ 2 ^ off * 2 ^ count * 2 ^ after =
+picked : (A pair R m off count after both : ℕ) → R < 2 ^ m → off + count + after ≡ both
+    → ((A * 2 ^ both + pair) * 2 ^ m + R) / 2 ^ (m + after) % 2 ^ count ≡ pair / 2 ^ after % 2 ^ count
+picked A pair R m off count after both r e =
+    let whole : 2 ^ both ≡ 2 ^ off * 2 ^ count * 2 ^ after =
     sym (ap (λ n. 2 ^ n) e) ∙ pow-add 2 (off + count) after ∙ ap (λ n. n * 2 ^ after) (pow-add 2 off count) in
-    let high : A * 1048576 ≡ A * (2 ^ off * 2 ^ count) * 2 ^ after =
+    let high : A * 2 ^ both ≡ A * (2 ^ off * 2 ^ count) * 2 ^ after =
     ap (λ n. A * n) whole ∙ sym (mul-assoc A (2 ^ off * 2 ^ count) (2 ^ after)) in
     let higher : A * (2 ^ off * 2 ^ count) ≡ A * 2 ^ off * 2 ^ count = sym (mul-assoc A (2 ^ off) (2 ^ count)) in
     ap (λ n. n % 2 ^ count)
-    (sym (shr-shr ((A * 1048576 + pair) * 2 ^ m + R) m after)
-    ∙ ap (λ n. n / 2 ^ after) (shr-high (A * 1048576 + pair) m R r ∙ ap (λ n. n + pair) high)
+    (sym (shr-shr ((A * 2 ^ both + pair) * 2 ^ m + R) m after)
+    ∙ ap (λ n. n / 2 ^ after) (shr-high (A * 2 ^ both + pair) m R r ∙ ap (λ n. n + pair) high)
     ∙ mul-add-div-right (pow-pos after) (A * (2 ^ off * 2 ^ count)) pair
     ∙ ap (λ n. n + pair / 2 ^ after) higher)
     ∙ mul-add-mod-self-right (A * 2 ^ off) (2 ^ count) (pair / 2 ^ after)
 
-pub bits-of-two : (ws : List ℕ) (from count : ℕ) → Under 1024 ws → from / 10 + 1 < length ws → from % 10 + count ≤ 20
-    → (getD ws (from / 10) 0 * 1024 + getD ws (from / 10 + 1) 0) / 2 ^ (20 - from % 10 - count) % 2 ^ count ≡ bitsAt ws from count
-unfolding bitsAt
-bits-of-two ws from count small h k =
-    let i = from / 10 in
-    let off = from % 10 in
-    let after = 20 - off - count in
-    let m = 10 * (length ws - (i + 2)) in
-    let place : 10 * length ws - (from + count) ≡ m + after = omega arith in
-    let rest : number 1024 (drop (i + 2) ws) < 2 ^ m =
-    subst (λ n. number 1024 (drop (i + 2) ws) < n)
-    (ten-bits (length (drop (i + 2) ws)) ∙ ap (λ n. 2 ^ (10 * n)) (length-drop (i + 2) ws))
-    (number-lt 1024 (drop (i + 2) ws) (all-drop (λ d. d < 1024) (i + 2) ws small)) in
-    sym (ap₂ (λ n p. n / 2 ^ p % 2 ^ count) (two-words ws i h) place
-    ∙ picked (number 1024 (take i ws)) (getD ws i 0 * 1024 + getD ws (i + 1) 0) (number 1024 (drop (i + 2) ws)) m off count after rest (omega arith))
+-- bits that begin `off` bits into digit i, and end in that digit or in the next one
+pub bits-of-two : (width : ℕ) (ds : List ℕ) (i off count : ℕ) → Under (2 ^ width) ds → i + 1 < length ds → off + count ≤ width + width
+    → (getD ds i 0 * 2 ^ width + getD ds (i + 1) 0) / 2 ^ (width + width - off - count) % 2 ^ count ≡ bitsIn width ds (width * i + off) count
+unfolding bitsIn
+bits-of-two width ds i off count small h k =
+    let after = width + width - off - count in
+    let n = length ds - (i + 2) in
+    let m = width * n in
+    let lengths : width * length ds ≡ width * i + width * 2 + m =
+    ap (λ l. width * l) (omega arith) ∙ mul-add width (i + 2) n ∙ ap (λ l. l + m) (mul-add width i 2) in
+    let two : width * 2 ≡ width + width = omega arith in
+    let place : width * length ds - (width * i + off + count) ≡ m + after = omega arith in
+    let rest : number (2 ^ width) (drop (i + 2) ds) < 2 ^ m =
+    subst (λ p. number (2 ^ width) (drop (i + 2) ds) < p)
+    (power-of width (length (drop (i + 2) ds)) ∙ ap (λ l. 2 ^ (width * l)) (length-drop (i + 2) ds))
+    (number-lt (2 ^ width) (drop (i + 2) ds) (all-drop (λ d. d < 2 ^ width) (i + 2) ds small)) in
+    sym (ap₂ (λ N p. N / 2 ^ p % 2 ^ count) (two-digits width ds i h) place
+    ∙ picked (number (2 ^ width) (take i ds)) (getD ds i 0 * 2 ^ width + getD ds (i + 1) 0) (number (2 ^ width) (drop (i + 2) ds)) m off count after (width + width) rest (omega arith))
 
 -- ---- words as elements
 pub small-values : (ws : List Gf1024) → Under 1024 (values ws)

@@ -52,7 +52,7 @@ with-zeros false cs = no-zeros (element 115) (element 104) (map element (drop 2 
 
 module _ (extendable : Bool) (ws : List Gf1024) (u v w : Gf1024)
     (is : u ∷ v ∷ w ∷ [] ≡ divided (element 0) (element 0) (element 1) (front extendable ++ (ws ++ zeros))) where
-  abbrev check : List Gf1024
+  abbrev pub check : List Gf1024
   check = u ∷ v ∷ sum w (element 1) ∷ []
 
   all-elements : map element ((customization extendable ++ values ws) ++ (0 ∷ 0 ∷ 0 ∷ [])) ≡ front extendable ++ (ws ++ zeros)

@@ -1,5 +1,8 @@
 -- The lemmas of this crate.
+pub mod BitAlgebra
 pub mod BitFields
+pub mod CardRoundTrip
+pub mod CheckWords
 pub mod CheckedFields
 pub mod ChecksumDetects
 pub mod ChecksumPolynomial
@@ -12,3 +15,4 @@ pub mod KeptWords
 pub mod Lookup
 pub mod NumberWords
 pub mod Pieces
+pub mod WordRoundTrip

@@ -7,3 +7,4 @@ pub mod Line
 pub mod NumberWords
 pub mod Reading
 pub mod Words
+pub mod Writing
