@@ -26,32 +26,37 @@ use Rattle.reader.proofs.CheckedFields.{passed, all-passed}
 use Rattle.reader.proofs.CheckWords as C
 use Rattle.reader.proofs.WordRoundTrip as W
 
+pub data-small : (f : Fields) → Under 1024 (dataWords f)
+data-small f = all-append (λ d. d < 1024) (wordsFor 4 (headerNumber f)) _ (W.small-wordsFor 4 (headerNumber f)) (W.small-wordsFor _ (number 256 (f .value)))
+
 -- ---- what is written is read
 module _ (f : Fields) (ok : Lawful f) where
-  data-small : Under 1024 (dataWords f)
-  data-small = all-append (λ d. d < 1024) (wordsFor 4 (headerNumber f)) _ (W.small-wordsFor 4 (headerNumber f)) (W.small-wordsFor _ (number 256 (f .value)))
 
   checks : List ℕ
   checks = checkWordsOf (customization (f .extendable) ++ dataWords f)
 
   three : length checks ≡ 3
   unfolding checks
-  three = C.three-checks (f .extendable) (dataWords f) data-small
+  three = C.three-checks (f .extendable) (dataWords f) (data-small f)
 
   small : Under 1024 checks
   unfolding checks
-  small = C.small-checks (f .extendable) (dataWords f) data-small
+  small = C.small-checks (f .extendable) (dataWords f) (data-small f)
 
   pub words-small : Under 1024 (wordsOf f)
   unfolding checks
-  words-small = all-append (λ d. d < 1024) (dataWords f) checks data-small small
+  words-small = all-append (λ d. d < 1024) (dataWords f) checks (data-small f) small
+
+  pub words-fit : countFits (length (wordsOf f)) ≡ true
+  unfolding checks
+  words-fit = W.fits f ok checks three small
 
   pub words-say : fieldsIn (wordsOf f) ≡ f
   unfolding checks
   words-say = W.says f ok checks three small
 
   pub words-right : isRight (f .extendable) (wordsOf f) ≡ true
-  words-right = C.checked-right (f .extendable) (dataWords f) data-small
+  words-right = C.checked-right (f .extendable) (dataWords f) (data-small f)
 
   either : (f .memberThreshold ≡ 1 → ⊥) ⊎ (f .member ≡ 0)
   either = elim (cases-eq (f .memberThreshold) 1) [ inl e ↦ inr (ok .alone e) | inr n ↦ inl n ]
@@ -67,7 +72,7 @@ module _ (f : Fields) (ok : Lawful f) where
       ∙ all-passed f (ok .groupThreshold-most) (ok .group) either
 
 -- ---- what is read is written so
-demanded : {A : Type 0} (b : Bool) (refusal : Refusal) (rest : Result A Refusal) (x : A) → require b refusal rest ≡ Ok x → (b ≡ true) × (rest ≡ Ok x)
+pub demanded : {A : Type 0} (b : Bool) (refusal : Refusal) (rest : Result A Refusal) (x : A) → require b refusal rest ≡ Ok x → (b ≡ true) × (rest ≡ Ok x)
 demanded true refusal rest x e = (refl, e)
 demanded false refusal rest x e = absurd (let z : _≡_ {A = ℕ} 0 1 = cc in omega arith)
 

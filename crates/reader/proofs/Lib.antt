@@ -15,4 +15,6 @@ pub mod KeptWords
 pub mod Lookup
 pub mod NumberWords
 pub mod Pieces
+pub mod Promises
+pub mod SpelledLines
 pub mod WordRoundTrip

@@ -123,3 +123,27 @@ module _ (bs : List ℕ) where
 
   pub absent : (ws : List (List ℕ)) → ((j : ℕ) → j < length ws → Begins ws j → ⊥) → indexOf ws bs ≡ None
   absent ws h = ap only (none ws 0 h)
+
+  -- the indices are those of words
+  below : (ws : List (List ℕ)) (i a : ℕ) (more : List ℕ) → indices ws i bs ≡ a ∷ more → a < i + length ws
+  below [] i a more e = absurd (let z : _≡_ {A = ℕ} 0 1 = cc in omega arith)
+  below (w ∷ ws) i a more e =
+      elim (cases-bool (beginsWith w bs)) [
+        inl t ↦ let same : i ≡ a = head (sym (taken w ws i t) ∙ e) in omega arith
+      | inr t ↦ let h : a < i + 1 + length ws = below ws (i + 1) a more (sym (passed w ws i t) ∙ e) in omega arith
+      ]
+    where
+      head : {x y : ℕ} {xs ys : List ℕ} → x ∷ xs ≡ y ∷ ys → x ≡ y
+      head e = cc
+
+  pub found-below : (ws : List (List ℕ)) (a : ℕ) → indexOf ws bs ≡ Some a → a < length ws
+  found-below ws a e = by (indices ws 0 bs) refl (e)
+    where
+      by : (l : List ℕ) → indices ws 0 bs ≡ l → only (indices ws 0 bs) ≡ Some a → a < length ws
+      by [] q e = absurd (let f : only [] ≡ Some a = sym (ap only q) ∙ e in let z : _≡_ {A = ℕ} 0 1 = cc in omega arith)
+      by (x ∷ []) q e =
+          let f : only (x ∷ []) ≡ Some a = sym (ap only q) ∙ e in
+          let same : x ≡ a = cc in
+          let h = below ws 0 x [] q in
+          omega arith
+      by (x ∷ y ∷ l) q e = absurd (let f : only (x ∷ y ∷ l) ≡ Some a = sym (ap only q) ∙ e in let z : _≡_ {A = ℕ} 0 1 = cc in omega arith)

@@ -45,6 +45,12 @@ number-wordsFor (suc k) n =
     ∙ ap₂ (λ x y. x + y) (ap₂ (λ x y. x * y) (zero-add d) size) (number-wordsFor k n)
     ∙ sym (ap (λ m. n % 2 ^ m) (omega arith) ∙ mod-pow-add n 10 (10 * k))
 
+pub wordsFor-at : (k n j : ℕ) → j < k → getD (wordsFor k n) j 0 ≡ n / 2 ^ (10 * (k - 1 - j)) % 1024
+unfolding wordsFor
+wordsFor-at zero n j h = absurd (not-suc-le-zero h)
+wordsFor-at (suc k) n zero h = ap (λ m. n / 2 ^ (10 * m) % 1024) (omega arith)
+wordsFor-at (suc k) n (suc j) h = wordsFor-at k n j (omega arith) ∙ ap (λ m. n / 2 ^ (10 * m) % 1024) (omega arith)
+
 -- equally many digits that write the same number are the same
 pub same-digits : (b m n : ℕ) (xs ys : List ℕ) → Under b xs → Under b ys → length xs ≡ length ys → numberAfter b m xs ≡ numberAfter b n ys → (m ≡ n) × (xs ≡ ys)
 same-digits b m n [] [] hx hy l e = (e, refl)

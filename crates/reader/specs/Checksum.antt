@@ -50,11 +50,14 @@ Right extendable words = (q : List Gf1024) × (coefficients extendable words ≡
 abbrev pub checkWordsOf : List ℕ → List ℕ
 checkWordsOf numbers = values (plusConstant sum (element 1) (remainderOf (map element (1 ∷ (numbers ++ (0 ∷ 0 ∷ 0 ∷ []))))))
 
--- in how many places two lists of words differ
+-- in how many places two lists differ
+abbrev pub differing : List ℕ → List ℕ → ℕ
+differing [] vs = 0
+differing (w ∷ ws) [] = 0
+differing (w ∷ ws) (v ∷ vs) = cond (eqb w v) 0 1 + differing ws vs
+
 abbrev pub differences : List Gf1024 → List Gf1024 → ℕ
-differences [] vs = 0
-differences (w ∷ ws) [] = 0
-differences (w ∷ ws) (v ∷ vs) = cond (eqb (w .value) (v .value)) 0 1 + differences ws vs
+differences ws vs = differing (values ws) (values vs)
 
 -- under the same flag no other list of as many words, at most 59, that differs from these in one to three places is right
 abbrev pub Detects : Bool → List Gf1024 → Type 0

@@ -6,5 +6,6 @@ pub mod Lexicon
 pub mod Line
 pub mod NumberWords
 pub mod Reading
+pub mod Spelling
 pub mod Words
 pub mod Writing

@@ -3,6 +3,7 @@ mod bits;
 pub mod card;
 pub mod checksum;
 mod decoding;
+mod encoding;
 pub mod lexicon;
 pub mod line;
 pub mod number_lexicon;

@@ -1,7 +1,7 @@
 //! The value of a card.
 ghost use mathlib.Core.Path.{_≡_};
 ghost use Prim.Native.Nat.{_%_, _≤_};
-ghost use lib.ListN.{take};
+ghost use lib.ListN.{length, take};
 ghost use Rattle.std.specs.Options.{Cases};
 ghost use Rattle.std.specs.declared.option.Option.the-variants.{None};
 
@@ -29,7 +29,8 @@ impl Value {
     }
 
     pub fn bytes(&self) -> &[u8]
-        ensures { λ r. ⌜ now r ≡ take (now (self .entry) .length) (now (self .entry) .bytes) ⌝ }
+        ensures bytes { λ r. ⌜ now r ≡ take (now (self .entry) .length) (now (self .entry) .bytes) ⌝ }
+        ensures size { λ r. ⌜ length (now r) ≡ now (self .entry) .length ⌝ }
     {
         &self.bytes[0..self.length]
     }

@@ -21,7 +21,8 @@ impl Words {
 
     pub(crate) fn push(&mut self, index: WordIndex)
         requires { ⌜ now self .count + 1 < 2 ^ 64 ⌝ }
-        ensures { λ _. ⌜ ((ws : List ℕ) → Holds (now (self .entry)) ws → Holds (now (self .exit)) (ws ++ (index .value ∷ []))) ⌝ }
+        ensures holds { λ _. ⌜ ((ws : List ℕ) → Holds (now (self .entry)) ws → Holds (now (self .exit)) (ws ++ (index .value ∷ []))) ⌝ }
+        ensures counts { λ _. ⌜ now (self .exit) .count ≡ now (self .entry) .count + 1 ⌝ }
     {
         if self.count < 59 {
             let element = Gf1024::new(index.value).unwrap();

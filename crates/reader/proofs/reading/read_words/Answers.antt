@@ -32,7 +32,7 @@ loop-offset-again g c =
     let front = c .loop-offset .inv .2 .0 in
     let gives = c .in-Word .ensures tt .gives in
     let v = c .in-Continue-index .index .value in
-    let kept = c .push .ensures front (c .loop-offset .inv .2 .1 .0) in
+    let kept = c .push .ensures .holds front (c .loop-offset .inv .2 .1 .0) in
     let size : length (front ++ (v ∷ [])) ≡ length front + 1 = length-push front v in
     let next =
     subst (λ l. piecesFrom l (c .loop-offset .tokens .position) ≡ word (c .in-Word .offset) (c .in-Word .text .now) ∷ piecesFrom l (c .next-token .last .self .position)) same (gives .0) in (

@@ -12,7 +12,9 @@ use Rattle.reader.proofs.words.Words.push.Needs as need
 use Rattle.reader.proofs.words.Words.push.Needs.{then-self-lt59, else-self-lt59}
 
 pub returns : need.returns
-returns c ws h =
+returns c =
+    record {
+    holds = λ ws h.
     let v = c .args .index .value in
     let more : length (ws ++ (v ∷ [])) ≡ length ws + 1 = length-push ws v in
     record {
@@ -30,4 +32,6 @@ returns c ws h =
                 ap (λ s. values (take (length (ws ++ (v ∷ []))) (s .1 .0))) (w .self-is)
                 ∙ passed (c .args .self .now .elements) v ws (c .args .self .now .size) (omega (arith, h .count, w .if-self-lt59 .left)) (h .first)
           ];
+    };
+    counts = refl;
     }
