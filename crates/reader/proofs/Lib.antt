@@ -12,9 +12,11 @@ pub mod ChecksumTest
 pub mod ChecksumWords
 pub mod IndicesOfPieces
 pub mod KeptWords
+pub mod LawfulCards
 pub mod Lookup
 pub mod NumberWords
 pub mod Pieces
 pub mod Promises
 pub mod SpelledLines
+pub mod TextOfWords
 pub mod WordRoundTrip

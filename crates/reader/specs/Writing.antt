@@ -3,8 +3,14 @@ use mathlib.Core.Path.{_≡_}
 use mathlib.Core.Bool.{Bool, cond}
 use mathlib.Core.List.{List, [], _∷_, _++_, map}
 use Prim.Native.Nat.{ℕ, zero, suc, _+_, _-_, _*_, _/_, _%_, _^_, _<_, _≤_}
-use lib.ListN.{length, getD}
+use lib.Dec.{leb}
+use lib.ListN.{length, getD, drop}
 use Rattle.std.specs.shelf.Digits.{number, Under}
+use Rattle.std.specs.declared.result.Result.{Result}
+use Rattle.std.specs.declared.result.Result.the-variants.{Ok, Err}
+use Rattle.refusal.specs.declared.layers.Layer.the-variants as layer
+use Rattle.refusal.specs.declared.Refusal.{Refusal}
+use Rattle.refusal.specs.declared.Refusal.the-variants.{SpaceTooShort}
 use Rattle.reader.specs.Card.{Fields}
 use Rattle.reader.specs.Checksum.{customization, checkWordsOf}
 
@@ -53,5 +59,18 @@ spaced [] = []
 spaced (word ∷ []) = word
 spaced (word ∷ next ∷ more) = word ++ (32 ∷ spaced (next ∷ more))
 
+-- the text of words, by their indices
+abbrev pub spell : List (List ℕ) → List ℕ → List ℕ
+spell lexicon indices = spaced (map (λ i. getD lexicon i []) indices)
+
 abbrev pub textOf : List (List ℕ) → Fields → List ℕ
-textOf lexicon f = spaced (map (λ i. getD lexicon i []) (wordsOf f))
+textOf lexicon f = spell lexicon (wordsOf f)
+
+-- the answer to a call that writes a text into a space: the count written, or the bytes wanted
+abbrev pub countOrRefusal : List ℕ → List ℕ → Result ℕ Refusal
+countOrRefusal text space = cond (leb (length text) (length space)) (Ok (length text)) (Err (SpaceTooShort layer.Text (length text)))
+
+-- the space after it: bytes past those written stay, and a refusal leaves all as it was
+abbrev pub spaceAfter : Result ℕ Refusal → List ℕ → List ℕ → List ℕ
+spaceAfter (Ok count) text space = text ++ drop count space
+spaceAfter (Err refusal) text space = space

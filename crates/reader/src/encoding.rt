@@ -58,7 +58,7 @@ fn value_word(value: &[u8], after: usize) -> WordIndex
     WordIndex::new(((pair >> (6 - from % 8)) % 1024) as u16).unwrap()
 }
 
-fn index_of(element: Gf1024) -> WordIndex
+pub(crate) fn index_of(element: Gf1024) -> WordIndex
     ensures { λ r. ⌜ r .value ≡ element .value ⌝ }
 {
     WordIndex::new(element.value()).unwrap()

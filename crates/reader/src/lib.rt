@@ -11,3 +11,4 @@ pub mod reading;
 pub mod value;
 pub mod word;
 mod words;
+pub mod writing;

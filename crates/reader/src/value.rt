@@ -1,7 +1,7 @@
 //! The value of a card.
 ghost use mathlib.Core.Path.{_≡_};
-ghost use Prim.Native.Nat.{_%_, _≤_};
-ghost use lib.ListN.{length, take};
+ghost use Prim.Native.Nat.{ℕ, _%_, _<_, _≤_};
+ghost use lib.ListN.{length as lengthOf, getD, take};
 ghost use Rattle.std.specs.Options.{Cases};
 ghost use Rattle.std.specs.declared.option.Option.the-variants.{None};
 
@@ -14,6 +14,8 @@ pub struct Value {
     ghost least: { 16 ≤ length },
     ghost most: { length ≤ 64 },
     ghost even: { length % 2 ≡ 0 },
+    ghost whole: { lengthOf bytes ≡ 64 },
+    ghost small: { (i : ℕ) → getD bytes i 0 < 256 },
 }
 
 impl Value {
@@ -30,7 +32,7 @@ impl Value {
 
     pub fn bytes(&self) -> &[u8]
         ensures bytes { λ r. ⌜ now r ≡ take (now (self .entry) .length) (now (self .entry) .bytes) ⌝ }
-        ensures size { λ r. ⌜ length (now r) ≡ now (self .entry) .length ⌝ }
+        ensures size { λ r. ⌜ lengthOf (now r) ≡ now (self .entry) .length ⌝ }
     {
         &self.bytes[0..self.length]
     }
