@@ -6,6 +6,8 @@ ghost use Rattle.std.specs.Results.{Cases};
 ghost use Rattle.std.specs.declared.result.Result.the-variants.{Ok, Err};
 ghost use Rattle.reader.specs.Line.{piecesFrom};
 ghost use Rattle.reader.specs.Reading.{indexAt, indicesIn, indexed, meant, reading as readingOf};
+ghost use Rattle.reader.specs.Card.{Fields};
+ghost use Rattle.reader.specs.Spelling.{ReadAs, Notices, WritesBack};
 ghost use Rattle.reader.specs.Words.{Holds};
 use crate::card::Card;
 use crate::decoding::card;
@@ -43,8 +45,7 @@ fn read_words<L: Lexicon>(lexicon: &L, line: &[u8]) -> Result<Words, Refusal>
     Ok(read)
 }
 
-/// The card that a line says, or the refusal that is due.
-pub fn read_card<L: Lexicon>(lexicon: &L, line: &[u8]) -> Result<Card, Refusal>
+fn read_line<L: Lexicon>(lexicon: &L, line: &[u8]) -> Result<Card, Refusal>
     ensures { λ r. ⌜ meant r ≡ readingOf (words (now (lexicon .entry))) (now (line .entry)) ⌝ }
 {
     if let Some(offset) = first_forbidden(line) {
@@ -52,4 +53,16 @@ pub fn read_card<L: Lexicon>(lexicon: &L, line: &[u8]) -> Result<Card, Refusal>
     }
     let read = read_words(lexicon, line)?;
     card(&read)
+}
+
+/// The card that a line says, or the refusal that is due. Of a line that is read, `back` says that it spells just the
+/// words by which the card is written, `spelled` that every other line that spells them is read alike, and `damaged`
+/// that with one to three words replaced it is refused.
+pub fn read_card<L: Lexicon>(lexicon: &L, line: &[u8]) -> Result<Card, Refusal>
+    ensures which { λ r. ⌜ meant r ≡ readingOf (words (now (lexicon .entry))) (now (line .entry)) ⌝ }
+    ensures back { λ r. ⌜ ((f : Fields) → meant r ≡ Ok f → WritesBack (words (now (lexicon .entry))) (now (line .entry)) f) ⌝ }
+    ensures spelled { λ r. ⌜ ((f : Fields) → meant r ≡ Ok f → ReadAs (words (now (lexicon .entry))) f) ⌝ }
+    ensures damaged { λ r. ⌜ ((f : Fields) → meant r ≡ Ok f → Notices (words (now (lexicon .entry))) f) ⌝ }
+{
+    read_line(lexicon, line)
 }
