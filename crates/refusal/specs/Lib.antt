@@ -2,3 +2,4 @@
 pub mod Layers
 pub mod Fields
 pub mod Refusals
+pub mod Sentences

@@ -1,6 +1,8 @@
 //! Every refusal of the kit: its number, its layer and its place.
 ghost use mathlib.Core.Path.{_≡_};
+ghost use mathlib.Core.Bool.{true};
 ghost use Rattle.refusal.specs.Refusals.{numberOf, layerOf, placeOf};
+ghost use Rattle.refusal.specs.Sentences.{plainLine};
 use numbers::GroupNumber;
 use numbers::GroupNumberDebug;
 use numbers::GroupNumberPartialEq;
@@ -167,7 +169,9 @@ impl Refusal {
     }
 
     /// What is wrong, for a person: one line, with no colon in it.
-    fn sentence(self) -> &'static str {
+    pub fn sentence(self) -> &'static str
+        ensures { λ r. ⌜ plainLine (now r) ≡ true ⌝ }
+    {
         match self {
             Refusal::FaultyWordFile { .. } => "the word file has a faulty or a missing line here",
             Refusal::ForbiddenByte { .. } =>

@@ -1,9 +1,9 @@
 -- Each row computes.
 use mathlib.Core.Path.{refl}
 use Rattle.field.specs.CarryLess.{timesX, productBy}
-use Rattle.reader.specs.Bits.{bitsAt}
+use Rattle.reader.specs.Bits.{bitsIn}
 use Rattle.examples.proofs.worked_examples.Needs as need
 
 pub returns : need.returns
-unfolding bitsAt timesX productBy
+unfolding bitsIn timesX productBy
 returns c = record { holds = (refl, (refl, (refl, (refl, (refl, (refl, tt)))))); rows = refl }

@@ -1,0 +1,2 @@
+-- The lemmas of the crate `kit`.
+mod Lines
