@@ -1,6 +1,7 @@
 -- The lemmas of this crate.
 pub mod BitAlgebra
 pub mod BitFields
+pub mod ByteOrder
 pub mod CardRoundTrip
 pub mod CheckWords
 pub mod CheckedFields
@@ -19,4 +20,8 @@ pub mod Pieces
 pub mod Promises
 pub mod SpelledLines
 pub mod TextOfWords
+pub mod WordFileLines
+pub mod WordFileLookup
+pub mod WordFileReading
+pub mod WordFileWords
 pub mod WordRoundTrip

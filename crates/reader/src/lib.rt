@@ -1,5 +1,6 @@
 //! Reads one card: from the bytes of a typed line to the fields of the card, or the refusal that is due.
 mod bits;
+mod byte_order;
 pub mod card;
 pub mod checksum;
 mod decoding;
@@ -10,5 +11,6 @@ pub mod number_lexicon;
 pub mod reading;
 pub mod value;
 pub mod word;
+pub mod word_file;
 mod words;
 pub mod writing;
