@@ -9,6 +9,7 @@ ghost use Rattle.reader.specs.Reading.{bytesAt, countFits, fieldsIn, checkedFi
 ghost use Rattle.reader.specs.Words.{Holds};
 use crate::bits::bits_at;
 use crate::card::Card;
+use crate::card_parts::CardParts;
 use crate::checksum::is_right;
 use crate::value::Value;
 use crate::words::Words;
@@ -101,28 +102,18 @@ fn fields(words: &[Gf1024]) -> Result<Card, Refusal>
     requires { ⌜ countFits (length (now words)) ≡ true ⌝ }
     ensures { λ r. ⌜ meant r ≡ checkedFields (fieldsIn (values (now (words .entry)))) ⌝ }
 {
-    let group = group_number(words);
-    let group_threshold = threshold(words, 24);
-    let group_count = group_count(words);
-    let member = member_number(words);
-    let member_threshold = threshold(words, 36);
-    if group_threshold.value > group_count.value || group.value >= group_count.value {
-        return Err(Refusal::GroupNumbers);
-    }
-    if member_threshold.value == 1 && member.value != 0 {
-        return Err(Refusal::MemberAtThresholdOne);
-    }
-    Ok(Card {
+    let parts = CardParts {
         identifier: identifier(words),
         extendable: bits_at(words, 15, 1) == 1,
         exponent: exponent(words),
-        group,
-        group_threshold,
-        group_count,
-        member,
-        member_threshold,
+        group: group_number(words),
+        group_threshold: threshold(words, 24),
+        group_count: group_count(words),
+        member: member_number(words),
+        member_threshold: threshold(words, 36),
         value: value(words),
-    })
+    };
+    parts.checked()
 }
 
 /// The card that the words say, if their count fits.

@@ -2,6 +2,7 @@
 mod bits;
 mod byte_order;
 pub mod card;
+pub mod card_parts;
 pub mod checksum;
 mod decoding;
 mod encoding;
