@@ -1,6 +1,6 @@
 -- The worked examples: a table of what the definitions give, with what they should give.
 use mathlib.Core.Path.{_≡_}
-use mathlib.Core.Bool.{Bool, cond}
+use mathlib.Core.Bool.{Bool, false, cond}
 use mathlib.Core.List.{List, [], _∷_, map}
 use Prim.Native.Nat.{ℕ, _+_}
 use Rattle.std.specs.shelf.Lists.{All}
@@ -13,6 +13,7 @@ use Rattle.refusal.specs.Refusals.{numberOf}
 use Rattle.reader.specs.Card.{Fields}
 use Rattle.reader.specs.Checksum.{checkWordsOf}
 use Rattle.reader.specs.Reading.{require, countFits, fieldsIn}
+use Rattle.reader.specs.Writing.{wordsFor, headerNumber}
 
 -- what is computed, and what it should be
 pub record Row : Type 0 where
@@ -31,6 +32,20 @@ abbrev fieldNumbers : Fields → List ℕ
 fieldNumbers f =
     f .identifier ∷ cond (f .extendable) 1 0 ∷ f .exponent ∷ f .group ∷ f .groupThreshold ∷ f .groupCount ∷ f .member ∷ f .memberThreshold ∷ []
 
+abbrev someFields : Fields
+someFields =
+    record {
+      identifier = 5;
+      extendable = false;
+      exponent = 1;
+      group = 2;
+      groupThreshold = 2;
+      groupCount = 3;
+      member = 4;
+      memberThreshold = 3;
+      value = [];
+    }
+
 -- the number of the refusal that a count of words gets, or 0
 abbrev refusedCount : ℕ → ℕ
 refusedCount n = number (require (countFits n) (WordCount n) (Ok tt))
@@ -45,8 +60,9 @@ table =
     ∷ row (times1024 64 64 ∷ []) (36 ∷ [])
     -- no string and no words
     ∷ row (checkWordsOf []) (14 ∷ 56 ∷ 65 ∷ [])
-    -- identifier 5, flag 0, exponent 1, group 2, group threshold 2, group count 3, member 4, member threshold 3
-    ∷ row (fieldNumbers (fieldsIn (0 ∷ 161 ∷ 132 ∷ 578 ∷ []))) (5 ∷ 0 ∷ 1 ∷ 2 ∷ 2 ∷ 3 ∷ 4 ∷ 3 ∷ [])
+    -- the fields' words, and the words' fields
+    ∷ row (wordsFor 4 (headerNumber someFields)) (0 ∷ 161 ∷ 132 ∷ 578 ∷ [])
+    ∷ row (fieldNumbers (fieldsIn (0 ∷ 161 ∷ 132 ∷ 578 ∷ []))) (fieldNumbers someFields)
     ∷ row (map refusedCount (20 ∷ 22 ∷ 33 ∷ 59 ∷ [])) (0 ∷ 0 ∷ 0 ∷ 0 ∷ [])
     ∷ row (map refusedCount (19 ∷ 21 ∷ 60 ∷ [])) (4 ∷ 4 ∷ 4 ∷ [])
     ∷ []
