@@ -16,10 +16,6 @@ abbrev pub withFront : List (List ℕ) → Result (List (List ℕ)) Refusal → 
 withFront front (Ok words) = Ok (front ++ words)
 withFront front (Err refusal) = Err refusal
 
-pub no-front : (r : Result (List (List ℕ)) Refusal) → withFront [] r ≡ r
-no-front (Ok words) = refl
-no-front (Err refusal) = refl
-
 longer-front : (front : List (List ℕ)) (word : List ℕ) (r : Result (List (List ℕ)) Refusal) → withFront front (withFirst word r) ≡ withFront (front ++ (word ∷ [])) r
 longer-front front word (Ok words) = ap Ok (sym (append-assoc front (word ∷ []) words))
 longer-front front word (Err refusal) = refl
