@@ -4,8 +4,12 @@ use mathlib.Core.Bool.{Bool, false, cond}
 use mathlib.Core.List.{List, [], _∷_, map}
 use Prim.Native.Nat.{ℕ, _+_}
 use Rattle.std.specs.shelf.Lists.{All}
+use Rattle.std.specs.declared.option.Option.{Option}
+use Rattle.std.specs.declared.option.Option.the-variants.{Some, None}
 use Rattle.std.specs.declared.result.Result.{Result}
 use Rattle.std.specs.declared.result.Result.the-variants.{Ok, Err}
+use Rattle.field.specs.declared.gf256.Gf256.{Gf256}
+use Rattle.field.specs.Gf256 as gf256
 use Rattle.field.specs.Gf1024.{element, product}
 use Rattle.refusal.specs.declared.Refusal.{Refusal}
 use Rattle.refusal.specs.declared.Refusal.the-variants.{WordCount}
@@ -22,6 +26,18 @@ pub record Row : Type 0 where
 
 abbrev row : List ℕ → List ℕ → Row
 row given wanted = record { given = given; wanted = wanted }
+
+-- the product of two elements of GF(256), by their values
+abbrev times256 : ℕ → ℕ → ℕ
+times256 a b = gf256.product (gf256.element a) (gf256.element b) .value
+
+-- the inverse of an element of GF(256), by its value, or nothing
+abbrev inverse256 : ℕ → List ℕ
+inverse256 a = values (gf256.inverse (gf256.element a))
+  where
+    values : Option Gf256 → List ℕ
+    values None = []
+    values (Some b) = b .value ∷ []
 
 -- the product of two elements of GF(1024), by their values
 abbrev times1024 : ℕ → ℕ → ℕ
@@ -56,7 +72,9 @@ refusedCount n = number (require (countFits n) (WordCount n) (Ok tt))
 
 abbrev pub table : List Row
 table =
-    row (times1024 2 512 ∷ []) (9 ∷ [])
+    row (times256 0x57 0x83 ∷ []) (0xc1 ∷ [])
+    ∷ row (inverse256 0x53) (0xca ∷ [])
+    ∷ row (times1024 2 512 ∷ []) (9 ∷ [])
     ∷ row (times1024 64 64 ∷ []) (36 ∷ [])
     -- no string and no words
     ∷ row (checkWordsOf []) (14 ∷ 56 ∷ 65 ∷ [])

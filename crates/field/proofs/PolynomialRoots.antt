@@ -1,6 +1,8 @@
 -- A polynomial is (x - r)(x - s)(x - t)·q + e exactly when its values at r, s and t are e.
 use mathlib.Core.Path.{_≡_, refl, sym, ap, ap₂, subst, _∙_}
 use mathlib.Core.List.{List, [], _∷_, _++_, map}
+use Prim.Native.Nat.{suc}
+use lib.ListN.{length}
 use Rattle.std.specs.declared.option.Option.{Option}
 use Rattle.field.specs.Laws.{Laws}
 use Rattle.field.specs.Polynomial.{addFront, timesRoot, plusConstant}
@@ -58,7 +60,7 @@ module _ {F : Type 0} {zeroF one : F} {_⊕_ _⊗_ : F → F → F} {inverse : F
       ∙ line-after x r e zeroF zeroF zeroF q (sym (Ring.zero-sum law (x ⊗ zeroF) ∙ Ring.times-zero law x))
 
   -- ---- division
-  quo : F → F → F → List F → List F
+  unfoldable pub quo : F → F → F → List F → List F
   quo r p c [] = []
   quo r p c (d ∷ ds) = (c ⊕ (r ⊗ p)) ∷ quo r (c ⊕ (r ⊗ p)) d ds
 
@@ -67,7 +69,12 @@ module _ {F : Type 0} {zeroF one : F} {_⊕_ _⊗_ : F → F → F} {inverse : F
   divide-after r p c [] = ap (λ y. y ∷ []) (sym (Ring.sum-back law c (r ⊗ p)))
   divide-after r p c (d ∷ ds) = ap₂ _∷_ (sym (Ring.sum-back law c (r ⊗ p))) (divide-after r (c ⊕ (r ⊗ p)) d ds)
 
-  divide : (r c : F) (cs : List F) → c ∷ cs ≡ lin r (val r (c ∷ cs)) (quo r zeroF c cs)
+  pub length-quo : (r p c : F) (cs : List F) → length (quo r p c cs) ≡ length cs
+  unfolding quo
+  length-quo r p c [] = refl
+  length-quo r p c (d ∷ ds) = ap suc (length-quo r (c ⊕ (r ⊗ p)) d ds)
+
+  pub divide : (r c : F) (cs : List F) → c ∷ cs ≡ lin r (val r (c ∷ cs)) (quo r zeroF c cs)
   divide r c cs = divide-after r zeroF c cs
 
   -- ---- three roots

@@ -14,3 +14,8 @@ productBy d r (suc k) a b = bitXor (b % 2 * a) (timesX d r (productBy d r k a (b
 -- a · b modulo x^d + r
 abbrev pub productModulo : ℕ → ℕ → ℕ → ℕ → ℕ
 productModulo d r a b = productBy d r d a b
+
+-- p · a^2 · a^4 · .., k factors after p
+unfoldable pub timesSquares : ℕ → ℕ → ℕ → ℕ → ℕ → ℕ
+timesSquares d r zero a p = p
+timesSquares d r (suc k) a p = timesSquares d r k (productModulo d r a a) (productModulo d r p (productModulo d r a a))

@@ -1,13 +1,13 @@
 -- The field of 1,024 elements: polynomials over two values modulo x^10 + x^3 + 1.
 use mathlib.Core.Bool.{cond}
-use Prim.Native.Nat.{ℕ, zero, suc, _%_}
+use Prim.Native.Nat.{ℕ, _%_}
 use native.Mathlib.Nat.{mod-lt}
 use lib.Dec.{eqb, lit<}
 use lib.Bits.{bitXor}
 use Rattle.std.specs.declared.option.Option.{Option}
 use Rattle.std.specs.declared.option.Option.the-variants.{Some, None}
 use Rattle.field.specs.declared.gf1024.Gf1024.{Gf1024}
-use Rattle.field.specs.CarryLess.{productModulo}
+use Rattle.field.specs.CarryLess.{productModulo, timesSquares}
 
 -- the element with the value n modulo 1,024
 abbrev pub element : ℕ → Gf1024
@@ -23,14 +23,9 @@ multiplied a b = productModulo 10 9 a b
 abbrev pub product : Gf1024 → Gf1024 → Gf1024
 product a b = element (multiplied (a .value) (b .value))
 
--- p · a^2 · a^4 · .., k factors after p
-unfoldable pub timesSquares : ℕ → ℕ → ℕ → ℕ
-timesSquares zero a p = p
-timesSquares (suc k) a p = timesSquares k (multiplied a a) (multiplied p (multiplied a a))
-
 -- a^1022, which is a^2 · a^4 · .. · a^512
 abbrev pub inverted : ℕ → ℕ
-inverted a = timesSquares 9 a 1
+inverted a = timesSquares 10 9 9 a 1
 
 -- the inverse, which 0 has not
 abbrev pub inverse : Gf1024 → Option Gf1024

@@ -1,10 +1,14 @@
-//! Fields in which each element is its own negative, polynomials over them, and the field of 1,024 elements.
+//! Fields in which each element is its own negative, polynomials over them, interpolation, and the fields of 256 and of 1,024 elements.
 ghost use mathlib.Core.Path.{_≡_};
 ghost use Rattle.std.specs.declared.option.Option.{Option as Maybe};
 ghost use Rattle.field.specs.Laws.{Laws};
 
+/// The field of 256 elements.
+pub mod gf256;
 /// The field of 1,024 elements.
 pub mod gf1024;
+/// The polynomial through given points, over any field.
+pub mod interpolation;
 /// Polynomials over any field.
 pub mod polynomial;
 

@@ -1,10 +1,10 @@
 -- Each row computes.
 use mathlib.Core.Path.{refl}
-use Rattle.field.specs.CarryLess.{timesX, productBy}
+use Rattle.field.specs.CarryLess.{timesX, productBy, timesSquares}
 use Rattle.reader.specs.Bits.{bitsIn}
 use Rattle.reader.specs.Writing.{wordsFor}
 use Rattle.examples.proofs.worked_examples.Needs as need
 
 pub returns : need.returns
-unfolding bitsIn timesX productBy wordsFor
-returns c = record { holds = (refl, (refl, (refl, (refl, (refl, (refl, (refl, tt))))))); rows = refl }
+unfolding bitsIn timesX productBy timesSquares wordsFor
+returns c = record { holds = (refl, (refl, (refl, (refl, (refl, (refl, (refl, (refl, (refl, tt))))))))); rows = refl }
