@@ -41,6 +41,25 @@ impl Exponent {
     }
 }
 
+/// One of the four rounds of the cipher, from 0.
+#[derive(Clone, Copy, PartialEq, Eq, Debug)]
+pub struct RoundNumber {
+    pub value: u8,
+    ghost bound: { value < 4 },
+}
+
+impl RoundNumber {
+    pub fn new(value: u8) -> Option<RoundNumber>
+        ensures { λ r. ⌜ Cases r (4 ≤ value) (λ n. n .value ≡ value) ⌝ }
+    {
+        if value < 4 {
+            Some(RoundNumber { value })
+        } else {
+            None
+        }
+    }
+}
+
 /// Which group a card belongs to, from 0.
 #[derive(Clone, Copy, PartialEq, Eq, Debug)]
 pub struct GroupNumber {

@@ -1,0 +1,2 @@
+-- The definitions of the program `digests`.
+pub mod Replies

@@ -1,0 +1,3 @@
+-- The definitions of the crate `sharing`.
+pub mod Curves
+pub mod Values
