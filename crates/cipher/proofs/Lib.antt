@@ -3,7 +3,6 @@ pub mod Inverse
 pub mod DrillBytes
 pub mod Applied
 pub mod Turned
-pub mod WorkedExample
 pub mod Chained
 pub mod Blocks
 pub mod ByteLists

@@ -43,7 +43,15 @@ fn apply_to_numbers<F: RoundFunction>(
         return false;
     };
     function
-        .apply(round, passphrase, identifier, extendable, exponent, half, out)
+        .apply(
+            round,
+            passphrase,
+            identifier,
+            extendable,
+            exponent,
+            half,
+            out,
+        )
         .is_ok()
 }
 
@@ -90,7 +98,9 @@ pub extern "C" fn cipher_stretch_drill(
     ensures answer { λ r. ⌜ r ≡ applies round (now (passphrase .entry)) identifier exponent (now (half .entry)) (now (out .entry)) ⌝ }
     ensures writes { λ r. ⌜ now (out .exit) ≡ cond r (stretched drillDigest 4 round (now (passphrase .entry)) identifier extendable exponent (now (half .entry)) ++ drop (length (now (half .entry))) (now (out .entry))) (now (out .entry)) ⌝ }
 {
-    let stretching = Stretching { digest: DrillDigest };
+    let stretching = Stretching {
+        digest: DrillDigest,
+    };
     apply_to_numbers(
         &stretching,
         round,

@@ -17,8 +17,11 @@ use numbers::RoundNumber;
 use refusal::Refusal;
 
 const ROUND_0: RoundNumber = RoundNumber { value: 0 };
+
 const ROUND_1: RoundNumber = RoundNumber { value: 1 };
+
 const ROUND_2: RoundNumber = RoundNumber { value: 2 };
+
 const ROUND_3: RoundNumber = RoundNumber { value: 3 };
 
 // A round function, with all that it takes besides the round number and the half.

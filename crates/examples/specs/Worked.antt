@@ -1,8 +1,9 @@
 -- The worked examples: a table of what the definitions give, with what they should give.
 use mathlib.Core.Path.{_≡_}
 use mathlib.Core.Bool.{Bool, false, cond}
-use mathlib.Core.List.{List, [], _∷_, map}
+use mathlib.Core.List.{List, [], _∷_, _++_, map}
 use Prim.Native.Nat.{ℕ, _+_}
+use lib.ListN.{replicate}
 use Rattle.std.specs.shelf.Lists.{All}
 use Rattle.std.specs.declared.option.Option.{Option}
 use Rattle.std.specs.declared.option.Option.the-variants.{Some, None}
@@ -14,6 +15,8 @@ use Rattle.field.specs.Gf1024.{element, product}
 use Rattle.refusal.specs.declared.Refusal.{Refusal}
 use Rattle.refusal.specs.declared.Refusal.the-variants.{WordCount}
 use Rattle.refusal.specs.Refusals.{numberOf}
+use Rattle.cipher.specs.Drill.{drillRound}
+use Rattle.cipher.specs.Feistel.{under, encrypted}
 use Rattle.reader.specs.Card.{Fields}
 use Rattle.reader.specs.Checksum.{checkWordsOf}
 use Rattle.reader.specs.Reading.{require, countFits, fieldsIn}
@@ -83,6 +86,8 @@ table =
     ∷ row (fieldNumbers (fieldsIn (0 ∷ 161 ∷ 132 ∷ 578 ∷ []))) (fieldNumbers someFields)
     ∷ row (map refusedCount (20 ∷ 22 ∷ 33 ∷ 59 ∷ [])) (0 ∷ 0 ∷ 0 ∷ 0 ∷ [])
     ∷ row (map refusedCount (19 ∷ 21 ∷ 60 ∷ [])) (4 ∷ 4 ∷ 4 ∷ [])
+    -- the drill round without a passphrase
+    ∷ row (encrypted (under drillRound [] 0 false 0) (replicate 8 0 ++ replicate 8 2)) (replicate 8 5 ++ replicate 8 1)
     ∷ []
 
 abbrev pub WorkedExamples : Type 0

@@ -8,5 +8,5 @@ pub fn worked_examples() -> usize
     ensures holds { λ _. ⌜ WorkedExamples ⌝ }
     ensures rows { λ r. ⌜ r ≡ length table ⌝ }
 {
-    9
+    10
 }
