@@ -31,7 +31,6 @@ data-small f = all-append (λ d. d < 1024) (wordsFor 4 (headerNumber f)) _ (W.sm
 
 -- ---- what is written is read
 module _ (f : Fields) (ok : Lawful f) where
-
   checks : List ℕ
   checks = checkWordsOf (customization (f .extendable) ++ dataWords f)
 
@@ -181,7 +180,7 @@ module _ (ws : List ℕ) (small : Under 1024 ws) (counted : countFits (length ws
   bytes-small =
       all-from-getD (λ d. d < 256) (F .value) 0
       (λ k h. let s = size in let lt : k < n = omega arith in
-        subst (λ x. x < 256) (sym (B.bytes-at ws (40 + pad) n k lt)) (B.bits-lt 10 ws (40 + pad + 8 * k) 8))
+      subst (λ x. x < 256) (sym (B.bytes-at ws (40 + pad) n k lt)) (B.bits-lt 10 ws (40 + pad + 8 * k) 8))
 
   pub fields-lawful : groupsFit F ≡ true → memberFits F ≡ true → Lawful F
   unfolding n
@@ -210,8 +209,8 @@ module _ (ws : List ℕ) (small : Under 1024 ws) (counted : countFits (length ws
       alone : F .memberThreshold ≡ 1 → memberFits F ≡ true → F .member ≡ 0
       alone e m =
           elim (or-cases (not (eqb (F .memberThreshold) 1)) (eqb (F .member) 0) m) [
-            inl t ↦ absurd (eqb-false (F .memberThreshold) 1 (not-true _ t) e)
-          | inr t ↦ eqb-true (F .member) 0 t
+            | inl t ↦ absurd (eqb-false (F .memberThreshold) 1 (not-true _ t) e)
+            | inr t ↦ eqb-true (F .member) 0 t
           ]
 
 pub read-written : (ws : List ℕ) (f : Fields) → Under 1024 ws → cardIn ws ≡ Ok f → (wordsOf f ≡ ws) × Lawful f
@@ -223,9 +222,10 @@ read-written ws f small e =
     let d4 = demanded (groupsFit F) GroupNumbers _ f (d3 .1) in
     let d5 = demanded (memberFits F) MemberAtThresholdOne (Ok F) f (d4 .1) in
     let same : F ≡ f = injected F f (d5 .1) in
-    let padded = eqb-true (bitsAt ws 40 (paddingBits (length ws))) 0 (d3 .0) in
-    (subst (λ g. wordsOf g ≡ ws) same (words-back ws small (d1 .0) padded (d2 .0)),
-     subst Lawful same (fields-lawful ws small (d1 .0) padded (d4 .0) (d5 .0)))
+    let padded = eqb-true (bitsAt ws 40 (paddingBits (length ws))) 0 (d3 .0) in (
+      subst (λ g. wordsOf g ≡ ws) same (words-back ws small (d1 .0) padded (d2 .0)),
+      subst Lawful same (fields-lawful ws small (d1 .0) padded (d4 .0) (d5 .0)),
+    )
   where
     injected : (a b : Fields) → _≡_ {A = Result Fields Refusal} (Ok a) (Ok b) → a ≡ b
     injected a b e = cc

@@ -129,8 +129,8 @@ module _ (bs : List ℕ) where
   below [] i a more e = absurd (let z : _≡_ {A = ℕ} 0 1 = cc in omega arith)
   below (w ∷ ws) i a more e =
       elim (cases-bool (beginsWith w bs)) [
-        inl t ↦ let same : i ≡ a = head (sym (taken w ws i t) ∙ e) in omega arith
-      | inr t ↦ let h : a < i + 1 + length ws = below ws (i + 1) a more (sym (passed w ws i t) ∙ e) in omega arith
+        | inl t ↦ let same : i ≡ a = head (sym (taken w ws i t) ∙ e) in omega arith
+        | inr t ↦ let h : a < i + 1 + length ws = below ws (i + 1) a more (sym (passed w ws i t) ∙ e) in omega arith
       ]
     where
       head : {x y : ℕ} {xs ys : List ℕ} → x ∷ xs ≡ y ∷ ys → x ≡ y

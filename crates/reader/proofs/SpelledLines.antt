@@ -40,8 +40,8 @@ blank-class b t = cond-true (isBlank b) Blank _ (truth (isBlank b) t)
 letter-high : (b : ℕ) → isLetter b ≡ true → 48 ≤ b
 letter-high b l =
     elim (or-cases (leb 97 b && leb b 122) (leb 48 b && leb b 57) l) [
-      inl h ↦ omega (arith, leb-true 97 b (and-parts (leb 97 b) (leb b 122) h .0))
-    | inr h ↦ leb-true 48 b (and-parts (leb 48 b) (leb b 57) h .0)
+      | inl h ↦ omega (arith, leb-true 97 b (and-parts (leb 97 b) (leb b 122) h .0))
+      | inr h ↦ leb-true 48 b (and-parts (leb 48 b) (leb b 57) h .0)
     ]
 
 letter-class : (b : ℕ) → T (isLetter b) → classOf b ≡ Letter

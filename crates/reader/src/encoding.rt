@@ -22,8 +22,8 @@ fn header_number(card: &Card) -> u64
     let deal = (u64::from(card.identifier.value) * 2 + flag) * 16 + u64::from(card.exponent.value);
     let group = (deal * 16 + u64::from(card.group.value)) * 16
         + (u64::from(card.group_threshold.value) - 1);
-    let member =
-        (group * 16 + (u64::from(card.group_count.value) - 1)) * 16 + u64::from(card.member.value);
+    let member = (group * 16 + (u64::from(card.group_count.value) - 1)) * 16
+        + u64::from(card.member.value);
     member * 16 + (u64::from(card.member_threshold.value) - 1)
 }
 

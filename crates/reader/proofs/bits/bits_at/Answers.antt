@@ -27,6 +27,6 @@ returns c =
           ap (λ n. (c .from .result * 1024 + c .from-2 .result) / 2 ^ after % n) mask
           ∙ ap₂ (λ a b. (a * 1024 + b) / 2 ^ after % 2 ^ count) high low
           ∙ bits-of-two 10 (values words) (from / 10) (from % 10) count (small-values words) (omega arith) (c .pre .narrow)
-        ∙ ap (λ p. bitsAt (values words) p count) (omega arith);
+          ∙ ap (λ p. bitsAt (values words) p count) (omega arith);
       bound = subst (λ n. (c .from .result * 1024 + c .from-2 .result) / 2 ^ after % n < 2 ^ count) (sym mask) (mod-lt _ (pow-pos count));
     }

@@ -27,9 +27,11 @@ loop-k-holds g c =
     let size = kept-length list (c .pre .counted .1) in
     let word : c .bytes .result .now ≡ spell lexicon (take 1 (kept list)) =
     c .bytes .ensures ∙ c .word-at .ensures .spells ∙ sym (spell-one lexicon (kept list) (omega arith)) in
-    let at : c .append-at .result ≡ length (spell lexicon (take 1 (kept list))) = omega (arith, c .append-at .ensures .end, ap length word) in
-    (at, written-first (spell lexicon (take 1 (kept list))) (c .args .space .now) (c .append-at .last .space) (c .append-at .result)
-      (c .append-at .ensures .holds ∙ ap₂ (λ p n. p ++ drop n (c .args .space .now)) word (sym (c .append-at .ensures .end))) at)
+    let at : c .append-at .result ≡ length (spell lexicon (take 1 (kept list))) = omega (arith, c .append-at .ensures .end, ap length word) in (
+      at,
+      written-first (spell lexicon (take 1 (kept list))) (c .args .space .now) (c .append-at .last .space) (c .append-at .result)
+          (c .append-at .ensures .holds ∙ ap₂ (λ p n. p ++ drop n (c .args .space .now)) word (sym (c .append-at .ensures .end))) at,
+    )
 
 pub append-after-space-at-requires : need.append-after-space-at-requires
 append-after-space-at-requires g c κs =
