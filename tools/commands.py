@@ -1,4 +1,4 @@
-"""Makes lines for the command `read`: right cards, and cards with every kind of fault."""
+"""Makes lines for the commands `read` and `write`: right cards, and cards with every kind of fault."""
 
 import dataclasses
 
@@ -32,6 +32,11 @@ def write(card, padding=0):
     return line_of(slip39.encode(card, padding))
 
 
+def fields(card):
+    """The arguments of the command `write`."""
+    return [str(part).encode() for part in dataclasses.astuple(card)[:-1]] + [card.value.hex().encode()]
+
+
 def with_words(rng, count):
     """A line of that many words whose last three are right check words."""
     indices = [rng.randrange(1024) for _ in range(max(count - 3, 0))]
@@ -57,12 +62,12 @@ def with_groups(rng):
         card = dataclasses.replace(card, group_threshold=rng.randint(count + 1, 16))
     else:
         card = dataclasses.replace(card, group=rng.randint(count, 15))
-    return write(dataclasses.replace(card, group_count=count))
+    return dataclasses.replace(card, group_count=count)
 
 
 def with_member(rng):
     """A card with member threshold 1 and a member number other than 0."""
-    return write(dataclasses.replace(random_card(rng), member_threshold=1, member=rng.randint(1, 15)))
+    return dataclasses.replace(random_card(rng), member_threshold=1, member=rng.randint(1, 15))
 
 
 def with_wrong_words(rng, count):

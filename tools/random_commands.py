@@ -1,9 +1,13 @@
-"""Writes random commands for `kit`: python3 tools/random_commands.py SEED COUNT > commands.
+"""Writes random commands for `kit`: python3 tools/random_commands.py SEED COUNT [WORD_FILE] > commands.
 
-Some lines have a megabyte. The same seed gives the same bytes.
+With a word file the cards are in its words, some of them shortened. Some lines have a megabyte. The same seed gives the
+same bytes.
 """
 
+import dataclasses
+import pathlib
 import random
+import re
 import sys
 
 import commands
@@ -61,30 +65,73 @@ def argument(rng):
         lambda: damaged(rng, spaced(rng, card)),
         lambda: commands.with_words(rng, rng.randrange(70)),
         lambda: commands.with_padding(rng),
-        lambda: commands.with_groups(rng),
-        lambda: commands.with_member(rng),
+        lambda: commands.write(commands.with_groups(rng)),
+        lambda: commands.write(commands.with_member(rng)),
         lambda: commands.with_wrong_words(rng, rng.randint(1, 4)),
         lambda: rng.randbytes(rng.randrange(200)),
     ]
     return rng.choice(makers)()
 
 
-def command(rng):
+def near(rng, card):
+    """The arguments of a card of which one is another number."""
+    texts = commands.fields(card)
+    at = rng.randrange(len(texts) - 1)
+    other = [b"", b"%d" % rng.randrange(20), b"%d" % rng.randrange(70000), b"0" * rng.randrange(9) + texts[at]]
+    texts[at] = rng.choice(other)
+    return b" ".join(texts)
+
+
+def fields(rng):
+    """The arguments of `write`."""
+    card = commands.random_card(rng)
+    texts = b" ".join(commands.fields(card))
+    makers = [
+        lambda: texts,
+        lambda: texts.upper(),
+        lambda: near(rng, card),
+        lambda: damaged(rng, texts),
+        lambda: b" ".join(commands.fields(commands.with_groups(rng))),
+        lambda: b" ".join(commands.fields(commands.with_member(rng))),
+        lambda: b" ".join(commands.fields(dataclasses.replace(card, value=rng.randbytes(rng.randrange(70))))),
+        lambda: b"0" * (MEGABYTE // 8) + texts,
+    ]
+    return rng.choices(makers, weights=[9, 3, 9, 9, 3, 3, 9, 1])[0]()
+
+
+def in_words(rng, words, line):
+    """The line with the words of a word file for four digits, some of them shortened."""
+
+    def word(found):
+        index = int(found[0])
+        if index >= len(words):
+            return found[0]
+        whole = words[index]
+        return whole[: rng.randint(4, len(whole))] if rng.randrange(2) else whole
+
+    return re.sub(rb"[0-9]{4}", word, line) if words else line
+
+
+def command(rng, words):
     kind = rng.randrange(100)
-    if kind < 90:
-        return b"read " + argument(rng)
+    if kind < 65:
+        return b"read " + in_words(rng, words, argument(rng))
+    if kind < 66:
+        return b"read " + in_words(rng, words, long_line(rng))
     if kind < 92:
-        return b"read " + long_line(rng)
-    return rng.choice([b"", b" \t", b"# " + rng.randbytes(9), b"read", b"readx 1", rng.randbytes(5), b"write 1"])
+        return b"write " + fields(rng)
+    others = [b"", b" \t", b"# " + rng.randbytes(9), b"read", b"readx 1", b"write", b"write 1", rng.randbytes(5)]
+    return rng.choice(others)
 
 
-def main(seed, count):
+def main(seed, count, word_file=None):
     rng = random.Random(seed)
+    words = pathlib.Path(word_file).read_bytes().split() if word_file else []
     out = sys.stdout.buffer
     for _ in range(count):
-        out.write(command(rng).replace(b"\n", b" ") + b"\n")
-    out.write(command(rng).replace(b"\n", b" "))
+        out.write(command(rng, words).replace(b"\n", b" ") + b"\n")
+    out.write(command(rng, words).replace(b"\n", b" "))
 
 
 if __name__ == "__main__":
-    main(int(sys.argv[1]), int(sys.argv[2]))
+    main(int(sys.argv[1]), int(sys.argv[2]), *sys.argv[3:])

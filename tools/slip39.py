@@ -156,6 +156,15 @@ def words_to_bits(indices):
     return bits
 
 
+def checked(card):
+    """The card, if its groups and its member go together."""
+    if card.group_threshold > card.group_count or card.group >= card.group_count:
+        raise Refused(7, 2)
+    if card.member_threshold == 1 and card.member != 0:
+        raise Refused(8, 3)
+    return card
+
+
 def decode(indices):
     """The card of the words' indices."""
     count = len(indices)
@@ -175,12 +184,10 @@ def decode(indices):
     length = (WORD_BITS * value_words - padding) // 8
     if value_bits >> 8 * length:
         raise Refused(6, 4)
-    if group_threshold > groups or group > groups:
-        raise Refused(7, 2)
-    if threshold == 0 and member != 0:
-        raise Refused(8, 3)
     value = value_bits.to_bytes(length, "big")
-    return Card(identifier, flag, exponent, group, group_threshold + 1, groups + 1, member, threshold + 1, value)
+    return checked(
+        Card(identifier, flag, exponent, group, group_threshold + 1, groups + 1, member, threshold + 1, value)
+    )
 
 
 def encode(card, padding=0):
@@ -215,4 +222,4 @@ def read_card(lexicon, line):
 
 def write_card(lexicon, card):
     """The line of a card, with one space between words."""
-    return b" ".join(lexicon.words[index] for index in encode(card))
+    return b" ".join(lexicon.words[index] for index in encode(checked(card)))

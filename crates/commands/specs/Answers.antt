@@ -7,6 +7,7 @@ use lib.Chars.{codes}
 use lib.Dec.{ltb}
 use Rattle.std.specs.Written.{decimal}
 use Rattle.reader.specs.Card.{Fields}
+use Rattle.reader.specs.Writing.{textOf}
 use Rattle.refusal.specs.declared.Refusal.{Refusal}
 use Rattle.refusal.specs.Layers.{layerName}
 use Rattle.refusal.specs.Refusals.{numberOf, layerOf, placeOf}
@@ -50,6 +51,10 @@ memberFields f = memberPart (f .member) (f .memberThreshold)
 
 abbrev pub cardLine : Fields → List ℕ
 cardLine f = cardText (dealFields f) (groupFields f) (memberFields f) (hexOf (f .value))
+
+-- the line that shows the text of a card, in the words of the lexicon
+abbrev pub textLine : List (List ℕ) → Fields → List ℕ
+textLine words f = codes "text " ++ textOf words f
 
 -- a sentence for a person follows the colon, and nothing after it
 pub record RefusedLine (refusal : Refusal) (line : List ℕ) : Type 0 where

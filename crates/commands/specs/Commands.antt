@@ -1,13 +1,13 @@
 -- What a line of the input asks for.
-use Prim.Native.Nat.{ℕ, _+_}
+use Prim.Native.Nat.{ℕ}
 use mathlib.Core.Bool.{Bool, true, false, cond, _&&_, _||_}
 use mathlib.Core.List.{List, [], _∷_}
 use lib.Chars.{codes}
-use lib.Dec.{eqb, ltb}
-use lib.ListN.{length, take, drop}
+use lib.Dec.{eqb}
 use Rattle.std.specs.declared.option.Option.{Option}
 use Rattle.std.specs.declared.option.Option.the-variants.{None, Some}
 use Rattle.std.specs.shelf.Text.{sameBytes}
+use Rattle.commands.specs.Lines.{nameOf, restOf}
 use Rattle.commands.specs.declared.command.Verb.{Verb}
 use Rattle.commands.specs.declared.command.Verb.the-variants as verb
 use Rattle.commands.specs.declared.command.Command.{Command}
@@ -17,6 +17,7 @@ use Rattle.commands.specs.declared.command.Command.the-variants as command
 pub data Request : Type 0 where
   nothing : Request
   readCard : List ℕ → Request
+  writeCard : List ℕ → Request
   malformed : Verb → Request
   unknown : Request
 
@@ -24,6 +25,7 @@ pub data Request : Type 0 where
 abbrev pub meaning : Command → Request
 meaning command.Nothing = nothing
 meaning (command.Read line) = readCard (line .now)
+meaning (command.Write arguments) = writeCard (arguments .now)
 meaning (command.Malformed v) = malformed v
 meaning command.Unknown = unknown
 
@@ -37,31 +39,26 @@ abbrev pub isComment : List ℕ → Bool
 isComment [] = false
 isComment (b ∷ bs) = eqb b 35
 
--- how many bytes stand before the first space
-abbrev pub nameLength : List ℕ → ℕ
-nameLength [] = 0
-nameLength (b ∷ bs) = cond (eqb b 32) 0 (nameLength bs + 1)
-
-abbrev pub nameOf : List ℕ → List ℕ
-nameOf line = take (nameLength line) line
-
--- what stands after the first space, if there is one
-abbrev pub restOf : List ℕ → Option (List ℕ)
-restOf line = cond (ltb (nameLength line) (length line)) (Some (drop (nameLength line + 1) line)) None
-
 -- the command of a name
 abbrev pub verbOf : List ℕ → Option Verb
-verbOf name = cond (sameBytes name (codes "read")) (Some verb.Read) None
+verbOf name =
+    cond (sameBytes name (codes "read")) (Some verb.Read) (cond (sameBytes name (codes "write")) (Some verb.Write) None)
 
 -- `read` takes the card's line
 abbrev pub readRequest : Option (List ℕ) → Request
 readRequest None = malformed verb.Read
 readRequest (Some line) = readCard line
 
+-- `write` takes the fields of a card
+abbrev pub writeRequest : Option (List ℕ) → Request
+writeRequest None = malformed verb.Write
+writeRequest (Some arguments) = writeCard arguments
+
 -- what a command asks for, with what stands after its name
 abbrev pub asks : Option Verb → Option (List ℕ) → Request
 asks None rest = unknown
 asks (Some verb.Read) rest = readRequest rest
+asks (Some verb.Write) rest = writeRequest rest
 
 -- what a line asks for
 abbrev pub requestOf : List ℕ → Request

@@ -7,22 +7,28 @@ use Rattle.std.specs.Of.String.{string-bytes}
 use Rattle.std.specs.Written.{decimal}
 use Rattle.std.specs.Options.{Cases}
 use Rattle.std.specs.declared.option.Option.{Option}
+use Rattle.std.specs.declared.option.Option.the-variants.{None, Some}
 use Rattle.std.specs.declared.result.Result.{Result}
 use Rattle.std.specs.declared.result.Result.the-variants.{Ok, Err}
 use Rattle.reader.specs.Card.{Fields}
-use Rattle.reader.specs.Reading.{reading}
+use Rattle.reader.specs.Reading.{reading, checkedFields}
 use Rattle.refusal.specs.declared.Refusal.{Refusal}
-use Rattle.commands.specs.Answers.{cardLine, RefusedLine}
-use Rattle.commands.specs.Commands.{Request, nothing, readCard, malformed, unknown}
+use Rattle.commands.specs.Answers.{cardLine, textLine, RefusedLine}
+use Rattle.commands.specs.Arguments.{separated, fieldsFrom}
+use Rattle.commands.specs.Commands.{Request, nothing, readCard, writeCard, malformed, unknown}
 use Rattle.commands.specs.declared.session.Answer.{Answer}
 use Rattle.commands.specs.declared.session.Counts.{Counts}
 use Rattle.commands.specs.declared.session.Outcome.{Outcome}
 use Rattle.commands.specs.declared.session.Outcome.the-variants.{Done, Refused, Error}
 
+-- what a command gets that is refused
+abbrev pub RefusedAnswer : Refusal → Answer → Type 0
+RefusedAnswer refusal a = (a .outcome ≡ Refused) × RefusedLine refusal (string-bytes (a .text))
+
 -- what `read` answers to a card or a refusal
 abbrev pub ReadAnswer : Result Fields Refusal → Answer → Type 0
 ReadAnswer (Ok fields) a = (a .outcome ≡ Done) × (string-bytes (a .text) ≡ cardLine fields)
-ReadAnswer (Err refusal) a = (a .outcome ≡ Refused) × RefusedLine refusal (string-bytes (a .text))
+ReadAnswer (Err refusal) a = RefusedAnswer refusal a
 
 -- what a line that is no command gets
 pub record ErrorAnswer (a : Answer) : Type 0 where
@@ -30,10 +36,21 @@ pub record ErrorAnswer (a : Answer) : Type 0 where
   pub message : List ℕ
   pub whole : string-bytes (a .text) ≡ codes "error: " ++ message
 
+-- what `write` answers to fields of a card or a refusal
+abbrev pub WrittenAnswer : List (List ℕ) → Result Fields Refusal → Answer → Type 0
+WrittenAnswer words (Ok fields) a = (a .outcome ≡ Done) × (string-bytes (a .text) ≡ textLine words fields)
+WrittenAnswer words (Err refusal) a = RefusedAnswer refusal a
+
+-- fields that are each in their range may still not be those of a card
+abbrev pub WriteAnswer : List (List ℕ) → Option Fields → Answer → Type 0
+WriteAnswer words None a = ErrorAnswer a
+WriteAnswer words (Some fields) a = WrittenAnswer words (checkedFields fields) a
+
 -- what a line gets, under the words of the lexicon
 abbrev pub Responds : List (List ℕ) → Request → Option Answer → Type 0
 Responds words nothing a = Cases a (Unit {0}) (λ _. ⊥)
 Responds words (readCard line) a = Cases a ⊥ (ReadAnswer (reading words line))
+Responds words (writeCard arguments) a = Cases a ⊥ (WriteAnswer words (fieldsFrom (separated arguments)))
 Responds words (malformed v) a = Cases a ⊥ ErrorAnswer
 Responds words unknown a = Cases a ⊥ ErrorAnswer
 

@@ -3,18 +3,26 @@ ghost use mathlib.Core.Path.{_≡_};
 ghost use mathlib.Core.List.{_++_};
 ghost use Prim.Native.Nat.{_<_};
 ghost use lib.Chars.{codes};
+ghost use lib.ListN.{length};
 ghost use Rattle.std.specs.Of.String.{string-bytes};
 ghost use Rattle.std.specs.Vec.{made};
 ghost use Rattle.std.specs.Written.{decimal};
 ghost use Rattle.refusal.specs.Layers.{layerName};
 ghost use Rattle.reader.specs.Card.{fieldsOf};
-ghost use Rattle.commands.specs.Answers.{hexDigit, hexOf, dealPart, groupPart, memberPart, cardText, dealFields, groupFields, memberFields, cardLine, RefusedLine};
+ghost use Rattle.reader.specs.Writing.{Plain, textOf};
+ghost use Rattle.commands.specs.Answers.{hexDigit, hexOf, dealPart, groupPart, memberPart, cardText, dealFields, groupFields, memberFields, cardLine, textLine, RefusedLine};
 use reader::card::Card;
+use reader::lexicon::Lexicon;
+use reader::writing::write_card;
 use refusal::Layer;
 use refusal::LayerDisplay;
 use refusal::Refusal;
 use std::alloc::AllocError;
 use std::alloc::Global;
+use std::str::from_utf8;
+
+/// As many bytes as 59 words of eight letters have, with a space between.
+const LONGEST_TEXT: usize = 59 * 8 + 58;
 
 fn hex_digit(n: u8) -> char
     requires { ⌜ n < 16 ⌝ }
@@ -118,6 +126,36 @@ pub fn card_line(heap: Global, card: &Card) -> Result<String, AllocError>
         member.as_str(),
         value.as_str(),
     )
+}
+
+fn text_with(heap: Global, text: &str) -> Result<String, AllocError>
+    ensures { λ r. ⌜ made r (λ s. string-bytes s ≡ codes "text " ++ now (text .entry)) ⌝ }
+{
+    format!(heap, "text {text}")
+}
+
+fn plain_str(bytes: &[u8]) -> &str
+    requires { ⌜ Plain (now bytes) ⌝ }
+    ensures { λ r. ⌜ now r ≡ now (bytes .entry) ⌝ }
+{
+    from_utf8(bytes).unwrap()
+}
+
+/// The text of a card, at the front of the space.
+fn card_text_in<'a, L: Lexicon>(lexicon: &L, card: &Card, space: &'a mut [u8]) -> &'a str
+    requires { ⌜ length (now space) ≡ 530 ⌝ }
+    ensures { λ r. ⌜ now r ≡ textOf (words (now (lexicon .entry))) (fieldsOf (now (card .entry))) ⌝ }
+{
+    let count = write_card(lexicon, card, space).unwrap();
+    plain_str(&space[0..count])
+}
+
+/// The answer that shows the text of a card.
+pub fn text_line<L: Lexicon>(heap: Global, lexicon: &L, card: &Card) -> Result<String, AllocError>
+    ensures { λ r. ⌜ made r (λ s. string-bytes s ≡ textLine (words (now (lexicon .entry))) (fieldsOf (now (card .entry)))) ⌝ }
+{
+    let mut space = [0; LONGEST_TEXT];
+    text_with(heap, card_text_in(lexicon, card, &mut space))
 }
 
 fn refused_with(

@@ -1,13 +1,15 @@
 //! The commands, one to a line.
 ghost use mathlib.Core.Path.{_≡_};
 ghost use Rattle.std.specs.Options.{mapped};
-ghost use Rattle.commands.specs.Commands.{meaning, isBlank, isComment, nameLength, nameOf, restOf, verbOf, readRequest, requestOf};
+ghost use Rattle.commands.specs.Commands.{meaning, isBlank, isComment, verbOf, readRequest, writeRequest, requestOf};
+use crate::text::cut;
 use crate::text::spells;
 
 /// The name of a command.
 #[derive(Clone, Copy)]
 pub enum Verb {
     Read,
+    Write,
 }
 
 /// What one line of the input asks for.
@@ -17,17 +19,12 @@ pub enum Command<'a> {
     Nothing,
     /// To read the card of this line.
     Read(&'a [u8]),
+    /// To write the card of these arguments.
+    Write(&'a [u8]),
     /// A command of this name, with arguments that it does not take.
     Malformed(Verb),
     /// A command that there is not.
     Unknown,
-}
-
-/// A line cut at its first space.
-#[derive(Clone, Copy)]
-struct Parts<'a> {
-    name: &'a [u8],
-    rest: Option<&'a [u8]>,
 }
 
 fn is_blank(line: &[u8]) -> bool
@@ -50,42 +47,15 @@ fn is_comment(line: &[u8]) -> bool
     }
 }
 
-/// How many bytes stand before the first space.
-fn name_length(line: &[u8]) -> usize
-    ensures { λ r. ⌜ r ≡ nameLength (now (line .entry)) ⌝ }
-{
-    for (i, b) in line.iter().enumerate() {
-        if *b == b' ' {
-            return i;
-        }
-    }
-    line.len()
-}
-
-fn cut(line: &[u8]) -> Parts<'_>
-    ensures name { λ r. ⌜ now (r .name) ≡ nameOf (now (line .entry)) ⌝ }
-    ensures rest { λ r. ⌜ mapped now (r .rest) ≡ restOf (now (line .entry)) ⌝ }
-{
-    let end = name_length(line);
-    if end < line.len() {
-        Parts {
-            name: &line[0..end],
-            rest: Some(&line[end + 1..]),
-        }
-    } else {
-        Parts {
-            name: line,
-            rest: None,
-        }
-    }
-}
-
 /// The command of this name, if there is one.
 fn verb_named(name: &[u8]) -> Option<Verb>
     ensures { λ r. ⌜ r ≡ verbOf (now (name .entry)) ⌝ }
 {
     if spells(name, "read") {
         return Some(Verb::Read);
+    }
+    if spells(name, "write") {
+        return Some(Verb::Write);
     }
     None
 }
@@ -99,6 +69,15 @@ fn read_command(rest: Option<&[u8]>) -> Command<'_>
     }
 }
 
+fn write_command(rest: Option<&[u8]>) -> Command<'_>
+    ensures { λ r. ⌜ meaning r ≡ writeRequest (mapped now (rest .entry)) ⌝ }
+{
+    match rest {
+        Some(arguments) => Command::Write(arguments),
+        None => Command::Malformed(Verb::Write),
+    }
+}
+
 /// What a line, without its line feed, asks for.
 pub fn parse(line: &[u8]) -> Command<'_>
     ensures { λ r. ⌜ meaning r ≡ requestOf (now (line .entry)) ⌝ }
@@ -109,6 +88,7 @@ pub fn parse(line: &[u8]) -> Command<'_>
     let parts = cut(line);
     match verb_named(parts.name) {
         Some(Verb::Read) => read_command(parts.rest),
+        Some(Verb::Write) => write_command(parts.rest),
         None => Command::Unknown,
     }
 }

@@ -1,4 +1,5 @@
 //! A whole run: the arguments, then the commands of the standard input until it ends.
+use crate::answer::refused_line;
 use crate::session::Counts;
 use crate::session::answer_line;
 use crate::settings::LexiconChoice;
@@ -8,7 +9,10 @@ use crate::text::without_line_feed;
 use reader::lexicon::Lexicon;
 use reader::number_lexicon::NumberLexicon;
 use reader::number_lexicon::NumberLexiconLexicon;
+use reader::word_file::WordFile;
+use reader::word_file::WordFileLexicon;
 use std::env;
+use std::fs;
 use std::io;
 use std::io::BufRead;
 use std::io::BufReader;
@@ -31,6 +35,17 @@ fn serve<L: Lexicon>(rt: &LibcRuntime, lexicon: &L) -> io::Result<()> {
         }
     }
     rt.println(counts.line(heap)?)
+}
+
+/// Answers the commands in the words of the file at `path`.
+fn serve_word_file(rt: &LibcRuntime, path: &str) -> io::Result<()> {
+    let Ok(bytes) = fs::read(rt, path) else {
+        return println!(rt, "error: the word file cannot be read");
+    };
+    match WordFile::new(bytes.as_slice()) {
+        Ok(file) => serve(rt, &file),
+        Err(refusal) => rt.println(refused_line(rt.alloc(), refusal)?),
+    }
 }
 
 fn usage(rt: &LibcRuntime) -> io::Result<()> {
@@ -57,9 +72,6 @@ pub fn run(rt: &LibcRuntime) -> io::Result<()> {
     };
     match lexicon_named(lexicon.as_str()) {
         LexiconChoice::Numbers => serve(rt, &NumberLexicon),
-        LexiconChoice::WordFile(_) => println!(
-            rt,
-            "error: word files cannot be read yet, only the lexicon numbers"
-        ),
+        LexiconChoice::WordFile(path) => serve_word_file(rt, path),
     }
 }

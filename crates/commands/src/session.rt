@@ -3,10 +3,13 @@ ghost use mathlib.Core.Path.{_≡_};
 ghost use Rattle.std.specs.Of.String.{string-bytes};
 ghost use Rattle.std.specs.Vec.{made};
 ghost use Rattle.reader.specs.Reading.{meant};
+ghost use Rattle.commands.specs.Arguments.{separated, fieldsFrom};
 ghost use Rattle.commands.specs.Commands.{meaning, requestOf};
-ghost use Rattle.commands.specs.Session.{ReadAnswer, ErrorAnswer, Responds, noted, doneText, doneLine};
+ghost use Rattle.commands.specs.Session.{RefusedAnswer, ReadAnswer, WrittenAnswer, WriteAnswer, ErrorAnswer, Responds, noted, doneText, doneLine};
 use crate::answer::card_line;
 use crate::answer::refused_line;
+use crate::answer::text_line;
+use crate::arguments::card_parts;
 use crate::command::Command;
 use crate::command::Verb;
 use crate::command::parse;
@@ -87,12 +90,30 @@ fn done_line(heap: Global, answered: u64, refused: u64, errors: u64) -> Result<S
     )
 }
 
+/// How a command is used, for a person.
+fn usage(verb: Verb) -> &'static str {
+    match verb {
+        Verb::Read => "read takes one space and then the line of a card",
+        Verb::Write =>
+            "write takes the nine fields of a card, each in its range, with one space between",
+    }
+}
+
 fn error_answer(heap: Global, message: &str) -> Result<Answer, AllocError>
     ensures { λ r. ⌜ made r ErrorAnswer ⌝ }
 {
     Ok(Answer {
         outcome: Outcome::Error,
         text: format!(heap, "error: {message}")?,
+    })
+}
+
+fn refused_answer(heap: Global, refusal: Refusal) -> Result<Answer, AllocError>
+    ensures { λ r. ⌜ made r (RefusedAnswer refusal) ⌝ }
+{
+    Ok(Answer {
+        outcome: Outcome::Refused,
+        text: refused_line(heap, refusal)?,
     })
 }
 
@@ -104,10 +125,42 @@ fn read_answer(heap: Global, result: Result<Card, Refusal>) -> Result<Answer, Al
             outcome: Outcome::Done,
             text: card_line(heap, &card)?,
         }),
-        Err(refusal) => Ok(Answer {
-            outcome: Outcome::Refused,
-            text: refused_line(heap, refusal)?,
+        Err(refusal) => refused_answer(heap, refusal),
+    }
+}
+
+fn malformed_answer(heap: Global, verb: Verb) -> Result<Answer, AllocError>
+    ensures { λ r. ⌜ made r ErrorAnswer ⌝ }
+{
+    error_answer(heap, usage(verb))
+}
+
+fn written_answer<L: Lexicon>(
+    heap: Global,
+    lexicon: &L,
+    result: Result<Card, Refusal>,
+) -> Result<Answer, AllocError>
+    ensures { λ r. ⌜ made r (WrittenAnswer (words (now (lexicon .entry))) (meant result)) ⌝ }
+{
+    match result {
+        Ok(card) => Ok(Answer {
+            outcome: Outcome::Done,
+            text: text_line(heap, lexicon, &card)?,
         }),
+        Err(refusal) => refused_answer(heap, refusal),
+    }
+}
+
+fn write_answer<L: Lexicon>(
+    heap: Global,
+    lexicon: &L,
+    arguments: &[u8],
+) -> Result<Answer, AllocError>
+    ensures { λ r. ⌜ made r (WriteAnswer (words (now (lexicon .entry))) (fieldsFrom (separated (now (arguments .entry))))) ⌝ }
+{
+    match card_parts(arguments) {
+        Some(parts) => written_answer(heap, lexicon, parts.checked()),
+        None => malformed_answer(heap, Verb::Write),
     }
 }
 
@@ -122,10 +175,8 @@ fn respond<L: Lexicon>(
     let answer = match command {
         Command::Nothing => return Ok(None),
         Command::Read(line) => read_answer(heap, read_card(lexicon, line))?,
-        Command::Malformed(Verb::Read) => error_answer(
-            heap,
-            "read takes one space and then the line of a card",
-        )?,
+        Command::Write(arguments) => write_answer(heap, lexicon, arguments)?,
+        Command::Malformed(verb) => malformed_answer(heap, verb)?,
         Command::Unknown => error_answer(heap, "there is no such command")?,
     };
     Ok(Some(answer))

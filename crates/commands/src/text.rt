@@ -1,7 +1,15 @@
 //! Lines and words as bytes.
 ghost use mathlib.Core.Path.{_≡_};
+ghost use Rattle.std.specs.Options.{mapped};
 ghost use Rattle.std.specs.shelf.Text.{sameBytes};
-ghost use Rattle.commands.specs.Lines.{Content};
+ghost use Rattle.commands.specs.Lines.{Content, nameLength, nameOf, restOf};
+
+/// A line cut at its first space.
+#[derive(Clone, Copy)]
+pub(crate) struct Parts<'a> {
+    pub(crate) name: &'a [u8],
+    pub(crate) rest: Option<&'a [u8]>,
+}
 
 /// Whether the bytes are those of the word.
 pub fn spells(bytes: &[u8], word: &str) -> bool
@@ -17,5 +25,35 @@ pub fn without_line_feed(line: &[u8]) -> &[u8]
     match line.strip_suffix(b"\n") {
         Some(content) => content,
         None => line,
+    }
+}
+
+/// How many bytes stand before the first space.
+fn name_length(line: &[u8]) -> usize
+    ensures { λ r. ⌜ r ≡ nameLength (now (line .entry)) ⌝ }
+{
+    for (i, b) in line.iter().enumerate() {
+        if *b == b' ' {
+            return i;
+        }
+    }
+    line.len()
+}
+
+pub(crate) fn cut(line: &[u8]) -> Parts<'_>
+    ensures name { λ r. ⌜ now (r .name) ≡ nameOf (now (line .entry)) ⌝ }
+    ensures rest { λ r. ⌜ mapped now (r .rest) ≡ restOf (now (line .entry)) ⌝ }
+{
+    let end = name_length(line);
+    if end < line.len() {
+        Parts {
+            name: &line[0..end],
+            rest: Some(&line[end + 1..]),
+        }
+    } else {
+        Parts {
+            name: line,
+            rest: None,
+        }
     }
 }

@@ -19,6 +19,7 @@ pub mod NumberWords
 pub mod Pieces
 pub mod Promises
 pub mod SpelledLines
+pub mod TextBounds
 pub mod TextOfWords
 pub mod WordFileLines
 pub mod WordFileLookup

@@ -1,11 +1,12 @@
 -- How a card is written: its words, and their text.
 use mathlib.Core.Path.{_≡_}
-use mathlib.Core.Bool.{Bool, cond}
+use mathlib.Core.Bool.{Bool, cond, _||_}
 use mathlib.Core.List.{List, [], _∷_, _++_, map}
 use Prim.Native.Nat.{ℕ, zero, suc, _+_, _-_, _*_, _/_, _%_, _^_, _<_, _≤_}
-use lib.Dec.{leb}
+use lib.Dec.{T, eqb, leb}
 use lib.ListN.{length, getD, drop}
 use Rattle.std.specs.shelf.Digits.{number, Under}
+use Rattle.std.specs.shelf.Lists.{All}
 use Rattle.std.specs.declared.result.Result.{Result}
 use Rattle.std.specs.declared.result.Result.the-variants.{Ok, Err}
 use Rattle.refusal.specs.declared.layers.Layer.the-variants as layer
@@ -13,6 +14,7 @@ use Rattle.refusal.specs.declared.Refusal.{Refusal}
 use Rattle.refusal.specs.declared.Refusal.the-variants.{SpaceTooShort}
 use Rattle.reader.specs.Card.{Fields}
 use Rattle.reader.specs.Checksum.{customization, checkWordsOf}
+use Rattle.reader.specs.Line.{isLetter}
 
 -- fields that a card can have
 pub record Lawful (f : Fields) : Type 0 where
@@ -65,6 +67,10 @@ spell lexicon indices = spaced (map (λ i. getD lexicon i []) indices)
 
 abbrev pub textOf : List (List ℕ) → Fields → List ℕ
 textOf lexicon f = spell lexicon (wordsOf f)
+
+-- nothing but letters a to z, digits and spaces
+abbrev pub Plain : List ℕ → Type 0
+Plain text = All (λ b. T (isLetter b || eqb b 32)) text
 
 -- the answer to a call that writes a text into a space: the count written, or the bytes wanted
 abbrev pub countOrRefusal : List ℕ → List ℕ → Result ℕ Refusal

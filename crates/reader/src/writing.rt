@@ -9,7 +9,7 @@ ghost use Rattle.reader.specs.Lexicon.{spelling};
 ghost use Rattle.reader.specs.Reading.{reading as readingOf};
 ghost use Rattle.reader.specs.Spelling.{ReadAs, Notices};
 ghost use Rattle.reader.specs.Words.{kept};
-ghost use Rattle.reader.specs.Writing.{spell, textOf, countOrRefusal, spaceAfter};
+ghost use Rattle.reader.specs.Writing.{Plain, spell, textOf, countOrRefusal, spaceAfter};
 use crate::card::Card;
 use crate::encoding::encode;
 use crate::encoding::index_of;
@@ -74,11 +74,13 @@ fn write_words<L: Lexicon>(lexicon: &L, list: &Words, space: &mut [u8])
     }
 }
 
-/// Writes the card's text, one space between words, and answers how many bytes it has. A space too short for it is left
-/// as it was.
+/// Writes the card's text, one space between words, and answers how many bytes it has: at most 530. A space too short
+/// for it is left as it was.
 pub fn write_card<L: Lexicon>(lexicon: &L, card: &Card, space: &mut [u8]) -> Result<usize, Refusal>
     ensures count { λ r. ⌜ r ≡ countOrRefusal (textOf (words (now (lexicon .entry))) (fieldsOf (now (card .entry)))) (now (space .entry)) ⌝ }
     ensures writes { λ r. ⌜ now (space .exit) ≡ spaceAfter r (textOf (words (now (lexicon .entry))) (fieldsOf (now (card .entry)))) (now (space .entry)) ⌝ }
+    ensures short { λ r. ⌜ length (textOf (words (now (lexicon .entry))) (fieldsOf (now (card .entry)))) ≤ 530 ⌝ }
+    ensures plain { λ r. ⌜ Plain (textOf (words (now (lexicon .entry))) (fieldsOf (now (card .entry)))) ⌝ }
     ensures reads { λ r. ⌜ readingOf (words (now (lexicon .entry))) (textOf (words (now (lexicon .entry))) (fieldsOf (now (card .entry)))) ≡ Ok (fieldsOf (now (card .entry))) ⌝ }
     ensures spelled { λ r. ⌜ ReadAs (words (now (lexicon .entry))) (fieldsOf (now (card .entry))) ⌝ }
     ensures damaged { λ r. ⌜ Notices (words (now (lexicon .entry))) (fieldsOf (now (card .entry))) ⌝ }

@@ -21,6 +21,7 @@ use Rattle.reader.specs.Writing.{wordsOf, spell, textOf}
 use Rattle.reader.proofs.CardRoundTrip.{words-fit}
 use Rattle.reader.proofs.LawfulCards.{card-lawful}
 use Rattle.reader.proofs.Promises.{text-read, read-as, notices}
+use Rattle.reader.proofs.TextBounds.{text-short, text-plain}
 use Rattle.reader.proofs.writing.write_card.Needs as need
 
 -- the words of a card are kept whole
@@ -61,6 +62,8 @@ returns-then-space-wanted g c =
       count = ap (λ n. Err (SpaceTooShort layer.Text n)) size
           ∙ sym (cond-false (leb (length (textOf lexicon f)) (length (c .args .space .now))) _ _ (lt-leb (length (textOf lexicon f)) (length (c .args .space .now)) (omega (arith, size))));
       writes = refl;
+      short = text-short lexicon lawful f ok;
+      plain = text-plain lexicon lawful f;
       reads = text-read lexicon lawful f ok;
       spelled = read-as lexicon lawful f ok;
       damaged = notices lexicon lawful f ok;
@@ -78,6 +81,8 @@ returns g c =
       count = ap Ok size
           ∙ sym (cond-true (leb (length (textOf lexicon f)) (length (c .args .space .now))) _ _ (le-leb (length (textOf lexicon f)) (length (c .args .space .now)) (omega (arith, size))));
       writes = c .write-words .ensures ∙ ap₂ (λ l n. spell lexicon l ++ drop n (c .args .space .now)) (w .same) (ap (λ l. length (spell lexicon l)) (w .same) ∙ sym size);
+      short = text-short lexicon lawful f ok;
+      plain = text-plain lexicon lawful f;
       reads = text-read lexicon lawful f ok;
       spelled = read-as lexicon lawful f ok;
       damaged = notices lexicon lawful f ok;

@@ -2,8 +2,8 @@
 use mathlib.Core.Path.{_≡_}
 use Prim.Native.Nat.{_+_}
 use lib.ListN.{drop}
-use Rattle.commands.specs.Commands.{nameLength}
-use Rattle.commands.proofs.command.name_length.Given as given
+use Rattle.commands.specs.Lines.{nameLength}
+use Rattle.commands.proofs.text.name_length.Given as given
 
 abbrev pub Inv-loop-i : given.InvT-loop-i
 Inv-loop-i l = l .i + nameLength (drop (l .i) (l .line)) ≡ nameLength (l .line)

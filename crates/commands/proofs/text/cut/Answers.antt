@@ -4,7 +4,7 @@ use borrow.Author.Needs.{needs}
 use Rattle.std.proofs.shelf.Lists.{take-all}
 use Rattle.std.proofs.shelf.Parts.{between-to-end}
 use Rattle.std.proofs.shelf.Ways.{tells}
-use Rattle.commands.proofs.command.cut.Needs as need
+use Rattle.commands.proofs.text.cut.Needs as need
 
 pub returns-then-end-line : need.returns-then-end-line
 returns-then-end-line c =

@@ -2,8 +2,8 @@
 use native.Mathlib.Omega.{arith}
 use Rattle.std.proofs.shelf.Lists.{at-drop-more, at-drop-all}
 use Rattle.std.proofs.shelf.Ways.{tells}
-use Rattle.commands.specs.Commands.{nameLength}
-use Rattle.commands.proofs.command.name_length.Needs as need
+use Rattle.commands.specs.Lines.{nameLength}
+use Rattle.commands.proofs.text.name_length.Needs as need
 
 pub returns-then-b-eq32 : need.returns-then-b-eq32
 returns-then-b-eq32 c =
