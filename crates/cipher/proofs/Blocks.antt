@@ -1,14 +1,13 @@
 -- The blocks of PBKDF2, one after the other.
 use mathlib.Core.Path.{_≡_, refl, sym, ap, ap₂, _∙_}
 use mathlib.Core.List.{List, [], _∷_, _++_}
-use Prim.Native.Nat.{ℕ, zero, suc, min, _+_, _-_, _*_, _/_, _≤_, _<_}
+use Prim.Native.Nat.{ℕ, zero, suc, min, _+_, _-_, _*_, _≤_, _<_}
 use native.Mathlib.Nat.{zero-add, add-mul}
 use native.Mathlib.Numerals.{add-one}
 use native.Mathlib.Omega.{arith}
 use lib.ListN.{length, take}
 use Rattle.std.proofs.shelf.Bits.{div-add-mod', mod-below, mul-le}
 use Rattle.std.proofs.shelf.Lists.{length-append, take-all, length-take-le}
-use Rattle.digest.specs.Keyed.{xors}
 use Rattle.digest.proofs.Xors.{length-xors}
 use Rattle.cipher.specs.Stretching.{int, iterated, combined, blocks, blockCount, pbkdf2}
 

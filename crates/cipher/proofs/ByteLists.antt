@@ -1,11 +1,11 @@
 -- Lists of bytes, and that the result of PBKDF2 is one.
 use mathlib.Core.Bool.{Bool, true, false}
 use mathlib.Core.List.{List, [], _∷_, _++_}
-use Prim.Native.Nat.{ℕ, zero, suc, _/_, _%_, _<_}
+use Prim.Native.Nat.{ℕ, zero, suc, _<_}
 use native.Mathlib.Omega.{arith}
 use lib.Bits.{xor-lt}
 use lib.Dec.{lit<}
-use lib.ListN.{length, take}
+use lib.ListN.{take}
 use Rattle.digest.specs.Keyed.{Bytes, xors}
 use Rattle.cipher.specs.Stretching.{int, iterated, combined, blocks, blockCount, pbkdf2, saltOf}
 

@@ -3,15 +3,15 @@ use mathlib.Core.Path.{_≡_, refl, sym, ap, _∙_}
 use mathlib.Core.Bool.{true, _&&_}
 use lib.Dec.{eqb, leb}
 use mathlib.Core.List.{List, [], _∷_, _++_}
-use Prim.Native.Nat.{ℕ, suc, _+_, _/_, _%_}
+use Prim.Native.Nat.{ℕ, _+_, _/_, _%_}
 use native.Mathlib.Omega.{arith}
 use lib.Bits.{bitXor, xor-assoc, xor-self, xor-zero-r}
-use lib.ListN.{length, take, drop}
+use lib.ListN.{length, drop}
 use Rattle.std.proofs.shelf.Tests.{eqb-true, and-parts}
 use Rattle.std.proofs.shelf.Lists.{length-append, take-append-drop, take-at, drop-at, length-take, length-drop}
 use Rattle.digest.specs.Keyed.{xors}
 use Rattle.digest.proofs.Xors.{length-xors}
-use Rattle.cipher.specs.Feistel.{Halves, halved, turned, rightThenLeft, network, encrypted, decrypted, isSecretLength, Undone}
+use Rattle.cipher.specs.Feistel.{Halves, halved, turned, rightThenLeft, network, decrypted, isSecretLength, Undone}
 
 pub xors-twice : (xs ys : List ℕ) → xors (xors xs ys) ys ≡ xs
 xors-twice [] ys = refl

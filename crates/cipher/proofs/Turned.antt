@@ -1,5 +1,5 @@
 -- A round over the halves of a list, as it is done in place.
-use mathlib.Core.Path.{_≡_, refl, sym, ap, ap₂, _∙_}
+use mathlib.Core.Path.{_≡_, sym, ap, ap₂, _∙_}
 use mathlib.Core.List.{List, _++_}
 use Prim.Native.Nat.{ℕ, _+_, _-_, _/_}
 use native.Mathlib.Nat.{sub-zero}
@@ -8,7 +8,7 @@ use lib.ListN.{length, take, drop}
 use Rattle.std.proofs.shelf.Lists.{length-append, length-take, length-drop, take-at, drop-at, take-rest}
 use Rattle.digest.specs.Keyed.{xors}
 use Rattle.digest.proofs.Xors.{length-xors}
-use Rattle.cipher.specs.Feistel.{Halves, halved, turned, rightThenLeft, network}
+use Rattle.cipher.specs.Feistel.{halved, turned, rightThenLeft, network}
 
 halves-of : (a b : List ℕ) → length a ≡ length b → halved (a ++ b) ≡ record { left = a; right = b }
 halves-of a b e =

@@ -1,8 +1,8 @@
 //! The cipher: four rounds over the halves of a secret, in the caller's memory.
 ghost use mathlib.Core.Path.{_≡_};
 ghost use mathlib.Core.Bool.{true};
-ghost use Prim.Native.Nat.{ℕ, _+_, _≤_};
-ghost use lib.ListN.{length};
+ghost use Prim.Native.Nat.{_+_, _/_, _≤_};
+ghost use lib.ListN.{length, replicate};
 ghost use Rattle.std.specs.declared.result.Result.the-variants.{Ok};
 ghost use Rattle.cipher.specs.Passphrase.{passphraseAnswer};
 ghost use Rattle.cipher.specs.Answers.{replaced};
@@ -56,7 +56,8 @@ impl<F: RoundFunction> Setting<'_, '_, F> {
         xor_into(&mut secret[0..half], mask);
         secret.rotate_left(half);
     }
-    // Takes the secret through four rounds, in the order given.
+
+    // Takes the secret through four rounds, in the order given. The work space is as long as a half, and holds zeros afterwards.
     fn run(
         &self,
         first: RoundNumber,
@@ -64,16 +65,16 @@ impl<F: RoundFunction> Setting<'_, '_, F> {
         third: RoundNumber,
         fourth: RoundNumber,
         secret: &mut [u8],
+        work: &mut [u8],
     )
         requires lawful { ⌜ passphraseAnswer (now (now self .passphrase)) ≡ Ok tt ⌝ }
         requires fits { ⌜ isSecretLength (length (now secret)) ≡ true ⌝ }
-        ensures { λ _. ⌜ now (secret .exit) ≡ network (under (F·RoundFunction .function) (now (now (self .entry) .passphrase)) (now (self .entry) .identifier .value) (now (self .entry) .extendable) (now (self .entry) .exponent .value)) (first .value) (second .value) (third .value) (fourth .value) (now (secret .entry)) ⌝ }
+        requires room { ⌜ length (now work) ≡ length (now secret) / 2 ⌝ }
+        ensures writes { λ _. ⌜ now (secret .exit) ≡ network (under (F·RoundFunction .function) (now (now (self .entry) .passphrase)) (now (self .entry) .identifier .value) (now (self .entry) .extendable) (now (self .entry) .exponent .value)) (first .value) (second .value) (third .value) (fourth .value) (now (secret .entry)) ⌝ }
+        ensures wiped { λ _. ⌜ now (work .exit) ≡ replicate (length (now (work .entry))) 0 ⌝ }
     {
         let half = secret.len() / 2;
-        let mut work = [0; 32];
-        let mask = Wiped {
-            bytes: &mut work[0..half],
-        };
+        let mask = Wiped { bytes: work };
         self.turn(first, secret, mask.bytes);
         self.turn(second, secret, mask.bytes);
         self.turn(third, secret, mask.bytes);
@@ -115,7 +116,9 @@ pub fn encrypt<F: RoundFunction>(
         extendable,
         exponent,
     };
-    setting.run(ROUND_0, ROUND_1, ROUND_2, ROUND_3, secret);
+    let mut work = [0; 32];
+    let mask = &mut work[0..length / 2];
+    setting.run(ROUND_0, ROUND_1, ROUND_2, ROUND_3, secret, mask);
     Ok(length)
 }
 
@@ -141,6 +144,8 @@ pub fn decrypt<F: RoundFunction>(
         extendable,
         exponent,
     };
-    setting.run(ROUND_3, ROUND_2, ROUND_1, ROUND_0, secret);
+    let mut work = [0; 32];
+    let mask = &mut work[0..length / 2];
+    setting.run(ROUND_3, ROUND_2, ROUND_1, ROUND_0, secret, mask);
     Ok(length)
 }

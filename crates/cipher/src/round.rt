@@ -4,7 +4,6 @@ ghost use mathlib.Core.Bool.{Bool};
 ghost use mathlib.Core.List.{List};
 ghost use Prim.Native.Nat.{ℕ, _<_, _≤_};
 ghost use lib.ListN.{length};
-ghost use Rattle.std.specs.Results.{Cases};
 ghost use Rattle.digest.specs.Keyed.{Bytes, written};
 ghost use Rattle.cipher.specs.Round.{roundAnswer};
 use crate::passphrase::check_passphrase;

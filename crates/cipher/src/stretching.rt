@@ -1,8 +1,8 @@
 //! Stretching: PBKDF2 of RFC 8018 over any keyed digest, as a round function.
 ghost use mathlib.Core.Path.{_≡_};
-ghost use mathlib.Core.List.{List, _++_};
-ghost use Prim.Native.Nat.{ℕ, min, _+_, _-_, _^_, _<_, _≤_};
-ghost use lib.ListN.{length, take};
+ghost use mathlib.Core.List.{_++_};
+ghost use Prim.Native.Nat.{min, _+_, _-_, _^_, _<_, _≤_};
+ghost use lib.ListN.{length, take, replicate};
 ghost use Rattle.cipher.specs.Stretching.{int, combined, pbkdf2, passwordOf, saltOf, iterations, stretched};
 use crate::round::RoundFunction;
 use crate::round::check_round;
@@ -122,19 +122,23 @@ fn write_blocks<D: KeyedDigest>(
 }
 
 // PBKDF2 over the salt in the text, which has four bytes after it, with as many bytes as `out` has.
-fn derive<D: KeyedDigest>(digest: &D, password: &[u8], text: &mut [u8], count: u32, out: &mut [u8])
-    requires { ⌜ (length (now password) ≤ 65536) × (4 ≤ length (now text)) × (length (now text) ≤ 65536) × (1 ≤ count) × (length (now out) ≤ 65536) ⌝ }
-    ensures { λ _. ⌜ now (out .exit) ≡ pbkdf2 (D·KeyedDigest .keyed) (D·KeyedDigest .size) (now (password .entry)) (take (length (now (text .entry)) - 4) (now (text .entry))) count (length (now (out .entry))) ⌝ }
+// The spaces `link` and `total` are as long as a digest, and hold zeros afterwards.
+fn derive<D: KeyedDigest>(
+    digest: &D,
+    password: &[u8],
+    text: &mut [u8],
+    count: u32,
+    link: &mut [u8],
+    total: &mut [u8],
+    out: &mut [u8],
+)
+    requires fits { ⌜ (length (now password) ≤ 65536) × (4 ≤ length (now text)) × (length (now text) ≤ 65536) × (1 ≤ count) × (length (now out) ≤ 65536) ⌝ }
+    requires room { ⌜ (length (now link) ≡ D·KeyedDigest .size) × (length (now total) ≡ D·KeyedDigest .size) ⌝ }
+    ensures writes { λ _. ⌜ now (out .exit) ≡ pbkdf2 (D·KeyedDigest .keyed) (D·KeyedDigest .size) (now (password .entry)) (take (length (now (text .entry)) - 4) (now (text .entry))) count (length (now (out .entry))) ⌝ }
+    ensures wiped { λ _. ⌜ (now (link .exit) ≡ replicate (length (now (link .entry))) 0) × (now (total .exit) ≡ replicate (length (now (total .entry))) 0) ⌝ }
 {
-    let size = digest.length();
-    let mut link = [0; 64];
-    let mut total = [0; 64];
-    let last = Wiped {
-        bytes: &mut link[0..size],
-    };
-    let sum = Wiped {
-        bytes: &mut total[0..size],
-    };
+    let last = Wiped { bytes: link };
+    let sum = Wiped { bytes: total };
     write_blocks(digest, password, text, count, last.bytes, sum.bytes, out);
 }
 
@@ -152,6 +156,45 @@ pub struct Stretching<D> {
     pub digest: D,
 }
 
+impl<D: KeyedDigest> Stretching<D> {
+    // Writes the result to `out`, which is as long as the half.
+    // The spaces `password` and `text` are for what is digested, and hold zeros afterwards.
+    fn stretch(
+        &self,
+        round: RoundNumber,
+        passphrase: &[u8],
+        identifier: Identifier,
+        extendable: bool,
+        exponent: Exponent,
+        half: &[u8],
+        password: &mut [u8],
+        text: &mut [u8],
+        out: &mut [u8],
+    )
+        requires fits { ⌜ (length (now passphrase) ≤ 100) × (length (now half) ≤ 32) × (length (now out) ≡ length (now half)) ⌝ }
+        requires room { ⌜ (length (now password) ≡ 101) × (length (now text) ≡ 44) ⌝ }
+        ensures writes { λ _. ⌜ now (out .exit) ≡ stretched (D·KeyedDigest .keyed) (D·KeyedDigest .size) (round .value) (now (passphrase .entry)) (identifier .value) extendable (exponent .value) (now (half .entry)) ⌝ }
+        ensures wiped { λ _. ⌜ (now (password .exit) ≡ replicate (length (now (password .entry))) 0) × (now (text .exit) ≡ replicate (length (now (text .entry))) 0) ⌝ }
+    {
+        let size = self.digest.length();
+        let mut link = [0; 64];
+        let mut total = [0; 64];
+        let key = Wiped { bytes: password };
+        let salt = Wiped { bytes: text };
+        let key_end = write_password(round, passphrase, key.bytes);
+        let salt_end = write_salt(identifier, extendable, half, salt.bytes);
+        derive(
+            &self.digest,
+            &key.bytes[0..key_end],
+            &mut salt.bytes[0..salt_end + 4],
+            iteration_count(exponent),
+            &mut link[0..size],
+            &mut total[0..size],
+            out,
+        );
+    }
+}
+
 pub impl<D: KeyedDigest> RoundFunction for Stretching<D> as StretchingRoundFunction {
     ghost function = { stretched (D·KeyedDigest .keyed) (D·KeyedDigest .size) };
 
@@ -166,21 +209,17 @@ pub impl<D: KeyedDigest> RoundFunction for Stretching<D> as StretchingRoundFunct
         out: &mut [u8],
     ) -> Result<usize, Refusal> {
         let length = check_round(passphrase, half, out)?;
-        let mut password_space = [0; 101];
-        let mut text_space = [0; 44];
-        let password = Wiped {
-            bytes: &mut password_space,
-        };
-        let text = Wiped {
-            bytes: &mut text_space,
-        };
-        let password_end = write_password(round, passphrase, password.bytes);
-        let salt_end = write_salt(identifier, extendable, half, text.bytes);
-        derive(
-            &self.digest,
-            &password.bytes[0..password_end],
-            &mut text.bytes[0..salt_end + 4],
-            iteration_count(exponent),
+        let mut password = [0; 101];
+        let mut text = [0; 44];
+        self.stretch(
+            round,
+            passphrase,
+            identifier,
+            extendable,
+            exponent,
+            half,
+            &mut password,
+            &mut text,
             &mut out[0..length],
         );
         Ok(length)

@@ -1,5 +1,5 @@
 -- One byte more, and the end.
-use mathlib.Core.Path.{_≡_, ap, _∙_}
+use mathlib.Core.Path.{ap, _∙_}
 use Prim.Native.Nat.{_%_}
 use native.Mathlib.Omega.{arith}
 use Rattle.std.specs.shelf.Lists.{sum}

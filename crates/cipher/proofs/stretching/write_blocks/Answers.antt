@@ -1,7 +1,7 @@
 -- One block more, and the end.
 use mathlib.Core.Path.{_≡_, refl, sym, ap, _∙_}
 use mathlib.Core.List.{List, _++_}
-use Prim.Native.Nat.{ℕ, min, _+_, _-_, _*_, _<_}
+use Prim.Native.Nat.{ℕ, min, _+_, _-_, _<_}
 use native.Mathlib.Nat.{zero-mul}
 use native.Mathlib.Omega.{arith}
 use lib.ListN.{length, take}

@@ -1,5 +1,5 @@
 -- No byte, one byte, and two parts.
-use mathlib.Core.Path.{_≡_, sym, ap, _∙_}
+use mathlib.Core.Path.{_∙_}
 use mathlib.Core.Bool.{true, false}
 use Prim.Native.Nat.{_/_}
 use lib.ListN.{length}

@@ -1,7 +1,7 @@
 -- The laws of a round function.
 use mathlib.Core.List.{_∷_}
 use native.Mathlib.Omega.{arith}
-use Prim.Native.Nat.{ℕ, _≤_, _<_}
+use Prim.Native.Nat.{_≤_, _<_}
 use lib.ListN.{length}
 use Rattle.std.proofs.shelf.Bits.{pow-pos}
 use Rattle.cipher.specs.Stretching.{saltOf, iterations}

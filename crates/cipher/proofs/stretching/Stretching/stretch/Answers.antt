@@ -1,14 +1,14 @@
 -- The password, the salt and what is derived from them.
-use mathlib.Core.Path.{_≡_, ap, ap₂, sym, _∙_}
-use mathlib.Core.List.{List, _++_}
+use mathlib.Core.Path.{_≡_, ap, ap₂, _∙_}
+use mathlib.Core.List.{List}
 use Prim.Native.Nat.{ℕ, _+_, _-_, _≤_}
 use native.Mathlib.Nat.{sub-zero}
 use native.Mathlib.Omega.{arith}
 use borrow.Author.Needs.{needs}
-use lib.ListN.{length, take, drop}
+use lib.ListN.{length, take}
 use Rattle.std.proofs.shelf.Lists.{length-take-le, take-take}
 use Rattle.cipher.specs.Stretching.{pbkdf2, passwordOf, saltOf, iterations}
-use Rattle.cipher.proofs.stretching.StretchingRoundFunction.apply.Needs as need
+use Rattle.cipher.proofs.stretching.Stretching.stretch.Needs as need
 
 -- a salt with four bytes after it
 salt-before : (space salt : List ℕ) (n : ℕ) → n + 4 ≤ length space → take n space ≡ salt → take (length (take (n + 4 - 0) space) - 4) (take (n + 4 - 0) space) ≡ salt
@@ -23,16 +23,10 @@ derived-same prf L p p′ s s′ c c′ n n′ ep es ec en = cc
 pub returns : need.returns
 returns g c =
     let D = g .D·KeyedDigest in
-    let n : ℕ = c .in-Continue-length .length in
-    let long : n ≡ length (c .args .half .now) = search needs in
-    let short : n ≤ 32 = search needs in
-    let room : n ≤ length (c .args .out .now) = search needs in
-    let out : List ℕ = c .args .out .now in
-    let salt : List ℕ = saltOf (c .args .identifier .value) (c .args .extendable) (c .args .half .now) in
     let password : List ℕ = passwordOf (c .args .round .value) (c .args .passphrase .now) in
-    let key : take (c .write-password-password-end .result - 0) (c .write-password-password-end .last .space) ≡ password =
-    ap (λ k. take k (c .write-password-password-end .last .space)) (sub-zero (c .write-password-password-end .result)) ∙ c .write-password-password-end .ensures .holds in
+    let salt : List ℕ = saltOf (c .args .identifier .value) (c .args .extendable) (c .args .half .now) in
+    let key : take (c .write-password-key-end .result - 0) (c .write-password-key-end .last .space) ≡ password =
+    ap (λ k. take k (c .write-password-key-end .last .space)) (sub-zero (c .write-password-key-end .result)) ∙ c .write-password-key-end .ensures .holds in
     let text = salt-before (c .write-salt-salt-end .last .space) salt (c .write-salt-salt-end .result) (omega arith) (c .write-salt-salt-end .ensures .holds) in
-    let size : length (take (n - 0) out) ≡ length (c .args .half .now) = ap (λ k. length (take k out)) (sub-zero n) ∙ length-take-le n out room ∙ long in
-    let made = derived-same (D .keyed) (D .size) _ password _ salt _ (iterations (c .args .exponent .value)) _ (length (c .args .half .now)) key text (c .iteration-count .ensures .value) size in
-    record { answer = search needs; writes = ap₂ (λ (x y : List ℕ). x ++ y) (c .derive .ensures ∙ made) (ap (λ k. drop k out) (sub-zero n)) }
+    let made = derived-same (D .keyed) (D .size) _ password _ salt _ (iterations (c .args .exponent .value)) _ (length (c .args .half .now)) key text (c .iteration-count .ensures .value) (c .pre .fits .2) in
+    record { writes = c .derive .ensures .writes ∙ made; wiped = search needs }
