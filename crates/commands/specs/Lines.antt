@@ -1,18 +1,19 @@
 -- The content of a line, and its parts before and after a space.
-use Prim.Native.Nat.{ℕ, _+_}
-use mathlib.Core.Bool.{cond}
-use mathlib.Core.List.{List, [], _∷_, _++_}
-use mathlib.Core.Logic.{_⊎_}
-use mathlib.Core.Path.{_≡_}
+use Prim.Native.Nat.{ℕ, _+_, _-_}
+use mathlib.Core.Bool.{Bool, cond, _&&_}
+use mathlib.Core.List.{List, [], _∷_}
 use lib.Dec.{eqb, ltb}
-use lib.ListN.{length, take, drop}
+use lib.ListN.{length, getD, take, drop}
 use Rattle.std.specs.declared.option.Option.{Option}
 use Rattle.std.specs.declared.option.Option.the-variants.{None, Some}
 
--- the bytes end with a line feed, and the content is what stands before it; or they do not, and it is all of them
-abbrev pub Content : List ℕ → List ℕ → Type 0
-Content bytes content =
-    (bytes ≡ content ++ (10 ∷ [])) ⊎ ((bytes ≡ content) × ((front : List ℕ) → bytes ≡ front ++ (10 ∷ []) → ⊥))
+-- the last byte is a line feed
+abbrev pub isEnded : List ℕ → Bool
+isEnded bytes = ltb 0 (length bytes) && eqb (getD bytes (length bytes - 1) 0) 10
+
+-- the bytes without the line feed at their end, if they have one
+abbrev pub contentOf : List ℕ → List ℕ
+contentOf bytes = cond (isEnded bytes) (take (length bytes - 1) bytes) bytes
 
 -- how many bytes stand before the first space
 abbrev pub nameLength : List ℕ → ℕ

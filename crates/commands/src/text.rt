@@ -2,7 +2,7 @@
 ghost use mathlib.Core.Path.{_≡_};
 ghost use Rattle.std.specs.Options.{mapped};
 ghost use Rattle.std.specs.shelf.Text.{sameBytes};
-ghost use Rattle.commands.specs.Lines.{Content, nameLength, nameOf, restOf};
+ghost use Rattle.commands.specs.Lines.{contentOf, nameLength, nameOf, restOf};
 
 /// A line cut at its first space.
 #[derive(Clone, Copy)]
@@ -20,11 +20,13 @@ pub fn spells(bytes: &[u8], word: &str) -> bool
 
 /// A line as it was read, without the line feed at its end if it has one.
 pub fn without_line_feed(line: &[u8]) -> &[u8]
-    ensures { λ r. ⌜ Content (now (line .entry)) (now r) ⌝ }
+    ensures { λ r. ⌜ now r ≡ contentOf (now (line .entry)) ⌝ }
 {
-    match line.strip_suffix(b"\n") {
-        Some(content) => content,
-        None => line,
+    let end = line.len();
+    if end > 0 && line[end - 1] == b'\n' {
+        &line[0..end - 1]
+    } else {
+        line
     }
 }
 
