@@ -3,6 +3,8 @@
 //! The polynomial of a card over the field of 1,024 elements has the coefficients, the highest first: 1, the bytes of the
 //! customization string, and the words. A card is right when the polynomial leaves the remainder 1 on division by
 //! (x - a)(x - a^2)(x - a^3), where a = 2.
+#![tactic(auto)]
+
 ghost use Rattle.std.specs.Prelude.{◌≡◌, true, [], ◌∷◌, ◌++◌, map, Decides, ◌==◌};
 ghost use Rattle.field.specs.Gf1024.{element, sum, product};
 ghost use Rattle.field.specs.Polynomial.{value_at};

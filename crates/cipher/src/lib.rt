@@ -1,4 +1,6 @@
 //! The cipher of the master secret: passphrases, round functions and the network of four rounds.
+#![tactic(auto)]
+
 mod drill;
 mod exports;
 mod feistel;

@@ -1,4 +1,6 @@
 //! The kit's command language: what a line asks for, and the line that answers it.
+#![tactic(auto)]
+
 pub mod answer;
 mod arguments;
 pub mod command;

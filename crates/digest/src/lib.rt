@@ -1,4 +1,6 @@
 //! Keyed digests: functions of a key and a message.
+#![tactic(auto)]
+
 mod bytes;
 mod drill;
 mod exports;

@@ -1,4 +1,6 @@
 //! Digests of what the lines of the standard input give, to be compared with another program's.
+#![tactic(auto)]
+
 mod command;
 mod data;
 mod reply;

@@ -1,4 +1,6 @@
 //! The worked examples of the kit's definitions, in one table.
+#![tactic(auto)]
+
 ghost use Rattle.std.specs.Prelude.{◌≡◌, length};
 ghost use Rattle.examples.specs.Worked.{WorkedExamples, table};
 

@@ -11,7 +11,7 @@ pub use point::Point;
 
 /// `start` times the product, over the others, of (x - xj) / (xi - xj), unless one of these is a division by 0.
 fn times_quotients<F: Field>(start: F, x: F, xi: F, others: &[Point<F>]) -> Option<F>
-    ensures { MatchOption result (All (λ xj. xj ≢ xi) (xs_of others.now) → ⊥) (λ v. All (λ xj. xj ≢ xi) (xs_of others.now) × (v ≡ product start (quotients zero one sum product inverse x xi (xs_of others.now)))) }
+    ensures { MatchOption result (All (λ xj. xj ≢ xi) (xs_of others.now) → ⊥) (λ v. All (λ xj. xj ≢ xi) (xs_of others.now) × (v ≡ F.product start (quotients F.zero F.one F.sum F.product F.inverse x xi (xs_of others.now)))) }
 {
     let mut result = start;
     for other in others {
@@ -24,8 +24,8 @@ fn times_quotients<F: Field>(start: F, x: F, xi: F, others: &[Point<F>]) -> Opti
 /// The value at `x` of the only polynomial, of degree below the number of points, through these points.
 /// It is absent if two points have the same x.
 pub fn interpolate<F: Field>(points: &[Point<F>], x: F) -> Option<F>
-    ensures lagrange { Interpolated zero one sum product inverse x points.now result }
-    ensures polynomial { OnePolynomial zero one sum product inverse x points.now result }
+    ensures lagrange { Interpolated F.zero F.one F.sum F.product F.inverse x points.now result }
+    ensures polynomial { OnePolynomial F.zero F.one F.sum F.product F.inverse x points.now result }
 {
     let mut total = F::zero();
     for i in 0..points.len() {

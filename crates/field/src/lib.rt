@@ -1,4 +1,6 @@
 //! Fields in which each element is its own negative, polynomials over them, interpolation, and the fields of 256 and of 1,024 elements.
+#![tactic(auto)]
+
 ghost use Rattle.std.specs.Prelude.{◌≡◌, Option as Maybe};
 ghost use Rattle.field.specs.Laws.{Laws};
 

@@ -5,7 +5,7 @@ use crate::Field;
 
 /// The value at `x` of the polynomial whose coefficients, the highest first, are `first` and then `coefficients`.
 pub fn evaluate<F: Field>(x: F, first: F, coefficients: &[F]) -> F
-    ensures { result ≡ value_at zero one sum product x (first ∷ coefficients.now) }
+    ensures { result ≡ value_at F.zero F.one F.sum F.product x (first ∷ coefficients.now) }
 {
     // Horner's rule.
     let mut value = first;

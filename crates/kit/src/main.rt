@@ -1,4 +1,6 @@
 //! The kit at a terminal: commands in, one a line, and an answer to each.
+#![tactic(auto)]
+
 use commands::serving::run;
 use std::io;
 

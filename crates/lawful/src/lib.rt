@@ -1,4 +1,6 @@
 //! Lawful deals: how a secret is dealt onto cards, and what cards that lie together say of the deals that can have dealt them.
+#![tactic(auto)]
+
 ghost use Rattle.lawful.specs.DealLaws.{DealLaws};
 ghost use Rattle.lawful.specs.Opening.{OpeningLaws};
 

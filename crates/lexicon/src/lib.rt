@@ -1,4 +1,6 @@
 //! A lexicon names each index from 0 to 1,023 by one word.
+#![tactic(auto)]
+
 ghost use Rattle.std.specs.Prelude.{◌≡◌, ℕ, List, [], slice_index_or};
 ghost use Rattle.lexicon.specs.Lexicon.{Lawful, index_of, spelling, found};
 

@@ -1,4 +1,6 @@
 //! The numbers on a card, each a type of its own: none can be out of its range, and none passes for another.
+#![tactic(auto)]
+
 ghost use Rattle.std.specs.Prelude.{◌≡◌, ◌<◌, ◌≤◌, MatchOption};
 
 /// Names the deal that a card comes from: 15 bits.

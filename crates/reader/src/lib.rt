@@ -1,4 +1,6 @@
 //! Reads one card: from the bytes of a typed line to the fields of the card, or the refusal that is due.
+#![tactic(auto)]
+
 mod bits;
 pub mod card;
 pub mod card_parts;

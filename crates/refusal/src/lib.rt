@@ -1,4 +1,6 @@
 //! Every refusal of the kit: its number, its layer and its place.
+#![tactic(auto)]
+
 ghost use Rattle.std.specs.Prelude.{◌≡◌, true};
 ghost use Rattle.refusal.specs.Refusals.{number_of, layer_of, place_of};
 ghost use Rattle.refusal.specs.Sentences.{plain_line};

@@ -1,4 +1,5 @@
 //! Secrets shared out over curves: the values of a curve at some places, and the secret that they fix.
+#![tactic(auto)]
 
 mod checks;
 mod curve;

@@ -1,4 +1,6 @@
 //! The kit with the published word list, run on the cards of the published vectors.
+#![tactic(auto)]
+
 use commands::serving::run;
 use std::io;
 

@@ -6,9 +6,9 @@ use Rattle.field.proofs.gf1024.operations.invert.Goals as goal
 pub loop-i-preserved : goal.loop-i-preserved
 unfolding times_squares
 loop-i-preserved c =
-    let more : 9 - c.loop-i.-i ≡ suc (9 - (c.loop-i.-i + 1)) = omega arith in (
+    let more : 9 - c.loop-i._i ≡ suc (9 - (c.loop-i._i + 1)) = omega arith in (
       c.loop-i.invariant.0 ∙ ap (λ k. times_squares 10 9 k c.loop-i.square c.loop-i.power) more
-          ∙ ap₂ (times_squares 10 9 (9 - (c.loop-i.-i + 1))) (sym c.multiply-square.ensures.0) (cc),
+          ∙ ap₂ (times_squares 10 9 (9 - (c.loop-i._i + 1))) (sym c.multiply-square.ensures.0) (cc),
       omega arith,
       omega arith,
     )
@@ -16,5 +16,5 @@ loop-i-preserved c =
 pub returns : goal.returns
 unfolding times_squares
 returns c =
-    let z : 9 - c.loop-i.-i ≡ 0 = omega arith in
+    let z : 9 - c.loop-i._i ≡ 0 = omega arith in
     (sym (c.loop-i.invariant.0 ∙ ap (λ k. times_squares 10 9 k c.loop-i.square c.loop-i.power) z), c.loop-i.invariant.2)

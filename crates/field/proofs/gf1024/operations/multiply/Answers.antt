@@ -5,8 +5,8 @@ use Rattle.field.specs.CarryLess.{times_x, product_by}
 use Rattle.field.specs.CarryLessRing.{one-more-bit, bit-lt, times_x-lt}
 use Rattle.field.proofs.gf1024.operations.multiply.Goals as goal
 
-pub overflow-mul-product : goal.overflow-mul-product
-overflow-mul-product c =
+pub overflow_mul-product : goal.overflow_mul-product
+overflow_mul-product c =
     let bit : (c.args.b / 2 ^ (c.loop-i.i - 1)) % 2 < 2 = mod-lt _ (lit< tt) in
     let h : (c.args.b / 2 ^ (c.loop-i.i - 1)) % 2 * c.args.a < 1024 = bit-lt _ _ 1024 bit c.requires.0 in
     record { fits = omega arith }

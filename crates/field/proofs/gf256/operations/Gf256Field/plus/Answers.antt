@@ -4,8 +4,8 @@ use lib.Bits.{xor_lt}
 use Rattle.field.specs.Gf256Laws.{same, sum-value}
 use Rattle.field.proofs.gf256.operations.Gf256Field.plus.Goals as goal
 
-pub invariant-of-result : goal.invariant-of-result
-invariant-of-result c = (xor_lt 8 c.args.self.value c.args.other.value c.args.self.bound c.args.other.bound, tt)
+pub invariant_of-result : goal.invariant_of-result
+invariant_of-result c = record { bound = xor_lt 8 c.args.self.value c.args.other.value c.args.self.bound c.args.other.bound }
 
 pub returns : goal.returns
 returns c = same _ _ (sym (sum-value c.args.self c.args.other))
