@@ -18,6 +18,8 @@ SIGNATURE = re.compile(
     r"^(\s*)(?:(abbrev|unfoldable)\s+)?(?:pub\s+)?([^\s:(){}.,;]+)((?: \([^()]*(?:\([^()]*\)[^()]*)*\)| \{[^{}]*\})*)\s*:\s(.*)$",
     re.M,
 )
+# What a file takes from a library of the kit keeps its name there.
+IMPORTED = re.compile(r"^(?:ghost )?use (?:Rattle\.std|mathlib|native|borrow)[\w.']*\.\{([^}]*)\}", re.M)
 WORDS = {"let", "use", "mod", "pub", "λ", "|", "_", "module", "in", "--", "record", "elim", "then", "else"}
 TOKEN = re.compile(r"[^\s(){}\[\];,.\"`:]+")
 CAMEL = re.compile(r"^[a-z][a-z0-9]*(?:[A-Z][a-z0-9]*)+$")
@@ -127,6 +129,9 @@ def main():
                     print(f"stands: {path}: {a} -> {new[a]}")
             continue
         names = {**new, **PARTED.get(path, {})}
+        for theirs in IMPORTED.findall(text):
+            for name in theirs.split(","):
+                names.pop(name.split(" as ")[0].strip(), None)
         out = "".join(TOKEN.sub(lambda m: names.get(m.group(0), m.group(0)), p) if named else p for p, named in pieces)
         if out != text:
             open(path, "w", encoding="utf-8").write(out)

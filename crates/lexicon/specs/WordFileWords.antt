@@ -4,7 +4,7 @@ use Rattle.std.proofs.Common.{sym, ap, subst, ◌∙◌, inl, inr, not-suc-le-ze
 use Rattle.std.specs.List.{AllByRecursion as All}
 use Rattle.std.proofs.ByRecursion.{All-weaker}
 use Rattle.std.proofs.lemmas.List.{take_all}
-use Rattle.std.proofs.lemmas.Bool.{and_parts, and_from, eqb-true, or_left, not_true, leb-true, cases_Bool, cases_order, cond-true, cond-false, both_ways}
+use Rattle.std.proofs.lemmas.Bool.{and_parts, and_from, eqb-true, or_left, not-true, leb-true, cases_Bool, cases_order, cond-true, cond-false, both_ways}
 use Rattle.refusal.specs.declared.Refusal.{Refusal}
 use Rattle.refusal.specs.declared.Refusal.TheVariants.{FaultyWordFile}
 use Rattle.lexicon.specs.ByteOrder.{comes_before}
@@ -95,7 +95,7 @@ word_at previous (w ∷ ws) (suc i) h t = word_at (Some w) ws i (omega arith) (m
 next_rises : (v w : List ℕ) → follows (Some v) w ≡ true → comes_before (take 4 v) (take 4 w) ≡ true
 next_rises v w t =
     let p = and_parts (comes_before v w) (not (begins_with w (take 4 v))) t in
-    first_before 4 v w p.0 (not_true (begins_with w (take 4 v)) p.1)
+    first_before 4 v w p.0 (not-true (begins_with w (take 4 v)) p.1)
 
 -- the first four letters of a word come before those of every later one
 later_rises : (v : List ℕ) (ws : List (List ℕ)) (j : ℕ) → j < length ws → in_order (Some v) ws ≡ true → comes_before (take 4 v) (take 4 (slice_index_or ws j [])) ≡ true

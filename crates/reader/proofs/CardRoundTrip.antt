@@ -3,7 +3,7 @@ use Rattle.std.proofs.Common.{◌≡◌, ℕ, zero, suc, ◌+◌, ◌-◌, ◌*�
 use Rattle.std.specs.Int.Digits.{number_from_digits, AllBelowBase}
 use Rattle.std.proofs.ByRecursion.{All-append, All-take, All-drop, All-from_get_or}
 use Rattle.std.proofs.lemmas.List.{take-append-drop}
-use Rattle.std.proofs.lemmas.Bool.{cases_Bool, cond-true, cond-false, and_parts, leb-true, ltb-true, eqb-true, eqb-false, or_cases, not_true, eq-eqb, cases_eq, true≢false}
+use Rattle.std.proofs.lemmas.Bool.{cases_Bool, cond-true, cond-false, and_parts, leb-true, ltb-true, eqb-true, eqb-false, or_cases, not-true, eq-eqb, cases_eq, true≢false}
 use Rattle.refusal.specs.declared.Refusal.{Refusal}
 use Rattle.refusal.specs.declared.Refusal.TheVariants.{WordCount, WrongChecksum, PaddingNotZero, GroupNumbers, MemberAtThresholdOne}
 use Rattle.reader.specs.Bits.{bits_in, bits_at}
@@ -200,7 +200,7 @@ module _ (ws : List ℕ) (small : AllBelowBase 1024 ws) (counted : count_fits (l
       alone : F.member_threshold ≡ 1 → member_fits F ≡ true → F.member ≡ 0
       alone e m =
           elim (or_cases (not (eqb F.member_threshold 1)) (eqb F.member 0) m) [
-            | inl t ↦ absurd (eqb-false F.member_threshold 1 (not_true _ t) e)
+            | inl t ↦ absurd (eqb-false F.member_threshold 1 (not-true _ t) e)
             | inr t ↦ eqb-true F.member 0 t
           ]
 
