@@ -17,7 +17,7 @@ returns-then-count-eq0 c =
     let total : List ℕ = c.args.total.now in
     let none = c.if-count-eq0.true in
     record {
-      answer = sym (chain_ok 32 c.args.key.now link total c.if-key-gt-LONGEST-INPUT.false c.if-link-lt32.false c.if-total-lt32.false);
+      answer = sym (chain_ok 32 c.args.key.now link total c.if-key-gt-LONGEST_INPUT.false c.if-link-lt32.false c.if-total-lt32.false);
       last = sym (ap (λ x. x ++ drop 32 link) (ap (last_link f (take 32 link)) none ∙ link_none f (take 32 link)) ∙ take-append-drop 32 link);
       sum = sym (ap (λ x. x ++ drop 32 total) (ap (chain_total f (take 32 link) (take 32 total)) none ∙ total_none f (take 32 link) (take 32 total)) ∙ take-append-drop 32 total);
     }
@@ -36,7 +36,7 @@ returns c =
     let inner = c.prepare-states.ensures.inner in
     let outer = c.prepare-states.ensures.outer in
     record {
-      answer = sym (chain_ok 32 key link total c.if-key-gt-LONGEST-INPUT.false c.if-link-lt32.false c.if-total-lt32.false);
+      answer = sym (chain_ok 32 key link total c.if-key-gt-LONGEST_INPUT.false c.if-link-lt32.false c.if-total-lt32.false);
       last = ap (λ x. x ++ drop 32 link) (c.extend.ensures.last ∙ ap₂ (λ i o. bytes_of (last_link (next_link i o) v n)) inner outer ∙ sym (last_words key u long n some));
       sum = ap (λ x. x ++ drop 32 total) (c.extend.ensures.sum ∙ ap₂ (λ i o. xors (take 32 total) (bytes_of (chain_total (next_link i o) v (replicate 8 0) n))) inner outer ∙ sym (total_words key u long (take 32 total) long2 n));
     }

@@ -13,6 +13,6 @@ returns c =
     let inner = c.finish-inner.ensures ∙ ap (λ s. finished s 64 message) c.prepare-states.ensures.inner in
     let outer = c.finish.ensures ∙ ap₂ (λ s m. finished s 64 m) c.prepare-states.ensures.outer inner in
     record {
-      answer = sym (digest_ok 32 key message out c.if-key-gt-LONGEST-INPUT.false c.if-message-gt-LONGEST-INPUT.false c.if-out-lt32.false);
-      writes = ap (λ x. x ++ drop 32 out) (c.copy-from-slice.ensures.after ∙ outer ∙ hmac-is key message);
+      answer = sym (digest_ok 32 key message out c.if-key-gt-LONGEST_INPUT.false c.if-message-gt-LONGEST_INPUT.false c.if-out-lt32.false);
+      writes = ap (λ x. x ++ drop 32 out) (c.copy_from_slice.ensures.after ∙ outer ∙ hmac-is key message);
     }

@@ -16,6 +16,6 @@ loop-i-preserved c =
     let outer : List ℕ = c.args.states.outer in
     let f : List ℕ → List ℕ = next_link inner outer in
     let first : List ℕ = c.args.first in
-    let i : ℕ = c.loop-i.-i in
-    let next : c.next-link-next.result ≡ last_link f first (i + 1) = c.next-link-next.ensures ∙ ap f c.loop-i.invariant.0 ∙ sym (link_more f first i) in
-    (next, c.xor-words-total.ensures ∙ ap₂ xors c.loop-i.invariant.1 next ∙ sym (total_more f first (replicate 8 0) i))
+    let i : ℕ = c.loop-i._i in
+    let next : c.next_link-next.result ≡ last_link f first (i + 1) = c.next_link-next.ensures ∙ ap f c.loop-i.invariant.0 ∙ sym (link_more f first i) in
+    (next, c.xor_words-total.ensures ∙ ap₂ xors c.loop-i.invariant.1 next ∙ sym (total_more f first (replicate 8 0) i))

@@ -7,4 +7,4 @@ use Rattle.digest.proofs.hmac.links.further_digests.Given as goal
 abbrev pub invariant-loop-i : goal.invariant-loop-i
 invariant-loop-i l =
     let f = next_link l.states.inner l.states.outer in
-    (l.last ≡ last_link f l.initial.last l.-i) × (l.sum ≡ chain_total f l.initial.last (replicate 8 0) l.-i)
+    (l.last ≡ last_link f l.initial.last l._i) × (l.sum ≡ chain_total f l.initial.last (replicate 8 0) l._i)

@@ -28,15 +28,15 @@ loop-i-preserved g c =
     let D = g.Self.KeyedDigest in
     let f = D.keyed c.args.key.now in
     let s = c.length-size.result in
-    let n = c.loop-i.-i in
+    let n = c.loop-i._i in
     let link = c.args.link.now in
     let total = c.args.total.now in
     let sized = g.met.Self.KeyedDigest.sized c.args.key.now in
     let same = c.length-size.ensures in
     let room = c.if-link-size.false in
     let room2 = c.if-total-size.false in
-    let fresh = written-ok c.digest.result c.in-ok-digest.field-0 (f (take (s - 0) c.loop-i.link)) c.loop-i.next c.digest.new.out c.in-ok-digest.was c.digest.ensures.writes in
-    let next = next_is f D.size s same sized link total room room2 n c.loop-i.link c.digest.new.out c.in-ok-digest.field-0 c.loop-i.next c.loop-i.invariant.2 fresh in (
+    let fresh = written-ok c.digest.result c.in_ok-digest.field-0 (f (take (s - 0) c.loop-i.link)) c.loop-i.next c.digest.new.out c.in_ok-digest.was c.digest.ensures.writes in
+    let next = next_is f D.size s same sized link total room room2 n c.loop-i.link c.digest.new.out c.in_ok-digest.field-0 c.loop-i.next c.loop-i.invariant.2 fresh in (
       omega arith,
       omega arith,
       link_step f D.size s same sized link total room room2 n c.loop-i.link c.advance.new.link (take s c.digest.new.out) c.loop-i.invariant.2 next c.advance.ensures.last,

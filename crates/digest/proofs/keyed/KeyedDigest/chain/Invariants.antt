@@ -10,5 +10,5 @@ invariant-loop-i g l =
     let u = take D.size l.initial.link in
     (length l.next ≡ 64)
     × (length l.link ≡ length l.initial.link)
-    × (l.link ≡ last_link f u l.-i ++ drop D.size l.initial.link)
-    × (l.total ≡ chain_total f u (take D.size l.initial.total) l.-i ++ drop D.size l.initial.total)
+    × (l.link ≡ last_link f u l._i ++ drop D.size l.initial.link)
+    × (l.total ≡ chain_total f u (take D.size l.initial.total) l._i ++ drop D.size l.initial.total)

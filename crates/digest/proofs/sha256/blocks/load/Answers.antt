@@ -12,7 +12,7 @@ loop-t-init g c = (length-replicate g.row.N 0, λ k h. omega arith)
 pub loop-t-preserved : goal.loop-t-preserved
 loop-t-preserved g c = (
   length-set _ _ _ ∙ c.loop-t.invariant.0,
-  rw c.from-be-bytes.ensures (fill_by_more (word_at c.args.bytes.now) c.loop-t.words c.loop-t.t 0 (omega arith) c.loop-t.invariant.1),
+  rw c.from_be_bytes.ensures (fill_by_more (word_at c.args.bytes.now) c.loop-t.words c.loop-t.t 0 (omega arith) c.loop-t.invariant.1),
 )
 
 pub returns : goal.returns

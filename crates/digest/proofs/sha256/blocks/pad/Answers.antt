@@ -18,7 +18,7 @@ returns c =
     let place : m ≡ at2 + zero_bytes total =
     elim c.if-at-le56.branch [ then-at-le56 w ↦ omega (arith, w.end-is, w.if-at-le56.true) | else-at-le56 w ↦ omega (arith, w.end-is, w.if-at-le56.false) ] in
     let small : m ≤ 120 = elim c.if-at-le56.branch [ then-at-le56 w ↦ omega (arith, w.end-is) | else-at-le56 w ↦ omega (arith, w.end-is) ] in
-    let bits = c.to-be-bytes.ensures ∙ be64-mod total in
+    let bits = c.to_be_bytes.ensures ∙ be64-mod total in
     let eight = ap length bits in
     record {
       end = elim c.if-at-le56.branch [ then-at-le56 w ↦ (omega (arith, w.end-is, eight), omega (arith, w.end-is, eight)) | else-at-le56 w ↦ (omega (arith, w.end-is, eight), omega (arith, w.end-is, eight)) ];

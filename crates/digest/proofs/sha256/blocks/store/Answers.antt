@@ -7,9 +7,9 @@ use Rattle.digest.proofs.sha256.blocks.store.Goals as goal
 
 pub loop-i-preserved : goal.loop-i-preserved
 loop-i-preserved c =
-    let four = ap length c.to-be-bytes.ensures in (
+    let four = ap length c.to_be_bytes.ensures in (
       omega (arith, c.append-at.ensures.end, four, c.loop-i.invariant.0),
-      c.append-at.ensures.holds ∙ ap₂ ◌++◌ c.loop-i.invariant.1 c.to-be-bytes.ensures ∙ sym (bytes-more c.args.words c.loop-i.i (omega arith)),
+      c.append-at.ensures.holds ∙ ap₂ ◌++◌ c.loop-i.invariant.1 c.to_be_bytes.ensures ∙ sym (bytes-more c.args.words c.loop-i.i (omega arith)),
     )
 
 pub returns : goal.returns

@@ -11,7 +11,7 @@ loop-i-init g c =
     let X : List ℕ = schedule 48 block in (
       omega arith,
       omega arith,
-      rounds-turn X block state state c.first-rounds-v.result 0 48 (omega arith) refl (rounds-none X state) c.first-rounds-v.ensures,
+      rounds-turn X block state state c.first_rounds-v.result 0 48 (omega arith) refl (rounds-none X state) c.first_rounds-v.ensures,
       refl,
     )
 
@@ -19,15 +19,15 @@ pub loop-i-preserved : goal.loop-i-preserved
 loop-i-preserved g c =
     let X : List ℕ = schedule 48 c.args.block in
     let i : ℕ = c.loop-i.i in
-    let w : List ℕ = c.next-rounds-next.result.words in
+    let w : List ℕ = c.next_rounds-next.result.words in
     let win : schedule (48 - 16 * i) w ≡ drop (16 * i) X =
-    window_next X c.loop-i.w w i (omega arith) (omega arith) c.loop-i.invariant.1 (omega arith) c.next-rounds-next.ensures.words c.loop-i.invariant.3 in (
+    window_next X c.loop-i.w w i (omega arith) (omega arith) c.loop-i.invariant.1 (omega arith) c.next_rounds-next.ensures.words c.loop-i.invariant.3 in (
       omega arith,
       omega arith,
-      rounds-turn X w c.args.state c.loop-i.v c.next-rounds-next.result.working i (48 - 16 * i) (omega arith) win c.loop-i.invariant.2 c.next-rounds-next.ensures.rounds,
+      rounds-turn X w c.args.state c.loop-i.v c.next_rounds-next.result.working i (48 - 16 * i) (omega arith) win c.loop-i.invariant.2 c.next_rounds-next.ensures.rounds,
       window_same X w i win,
     )
 
 pub returns : goal.returns
 returns g c =
-    c.sum-words.ensures ∙ compressed-is c.args.state c.args.block c.loop-i.v c.loop-i.i (omega arith) c.loop-i.invariant.2
+    c.sum_words.ensures ∙ compressed-is c.args.state c.args.block c.loop-i.v c.loop-i.i (omega arith) c.loop-i.invariant.2
