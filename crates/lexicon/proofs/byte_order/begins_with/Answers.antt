@@ -6,5 +6,5 @@ use Rattle.std.proofs.lemmas.Bool.Decides.{Decides-eqb}
 
 pub returns : goal.returns
 returns c =
-    begins_decided c.args.word.now c.args.bytes.now c.starts-with.result
-    (starts_is Decides-eqb c.args.word.now c.args.bytes.now c.starts-with.result c.starts-with.ensures.value)
+    begins_decided c.args.word.now c.args.bytes.now c.starts_with.result
+    (starts_is Decides-eqb c.args.word.now c.args.bytes.now c.starts_with.result c.starts_with.ensures.value)

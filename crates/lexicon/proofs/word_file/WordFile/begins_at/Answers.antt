@@ -12,5 +12,5 @@ returns c =
     let i = c.args.index in
     let bytes = c.args.bytes.now in
     let word : c.bytes.result.now ≡ get_or (spellings file.words) i [] = c.bytes.ensures ∙ spelling-at file.words i c.index-self-index.result file.count (omega arith) in
-    c.begins-with.ensures ∙ ap (λ w. begins_with w bytes) word
+    c.begins_with.ensures ∙ ap (λ w. begins_with w bytes) word
     ∙ sym (ap (λ b. b && begins_with (get_or (spellings file.words) i []) bytes) (lt-ltb i 1024 (omega arith)))

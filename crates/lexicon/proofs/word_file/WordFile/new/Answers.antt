@@ -11,14 +11,14 @@ use Rattle.lexicon.proofs.WordFileReading.{with_front, faulty, one_more, too_lon
 use Rattle.lexicon.specs.WordFileWords.{accepted}
 use Rattle.lexicon.proofs.word_file.WordFile.new.Goals as goal
 
-pub returns-in-default : goal.returns-in-default
-returns-in-default c =
+pub returns-in_default : goal.returns-in_default
+returns-in_default c =
     let file = c.args.file.now in
     let i = c.loop-i.i in
     let front = spellings (take i c.loop-i.words) in
     let previous = option_map spelling c.loop-i.previous in
     let offset = c.loop-i.offset in
-    let none : next_word previous (drop offset file) ≡ None = sym (c.in-default.ensures ∙ ap (next_word previous) (take_rest file offset)) in
+    let none : next_word previous (drop offset file) ≡ None = sym (c.in_default.ensures ∙ ap (next_word previous) (take_rest file offset)) in
     let left : 1024 - i ≡ suc (1024 - (i + 1)) = omega arith in
     sym (faulty front previous offset file (1024 - i) (1024 - (i + 1)) left none) ∙ c.loop-i.invariant.2
 
@@ -56,10 +56,10 @@ all_words words i previous offset file size read end so_far =
     let all : take i words ≡ words = take_all i words (omega arith) in
     ap (λ l. Ok (spellings l)) (sym all) ∙ sym (whole (spellings (take i words)) previous offset file (1024 - i) (omega arith) end) ∙ so_far
 
-pub invariant-of-result : goal.invariant-of-result
-invariant-of-result c =
+pub invariant_of-result : goal.invariant_of-result
+invariant_of-result c =
     let words = all_words c.loop-i.words c.loop-i.i (option_map spelling c.loop-i.previous) c.loop-i.offset c.args.file.now c.loop-i.invariant.0 c.loop-i-test.false c.if-offset-file.false c.loop-i.invariant.2 in
-    (c.loop-i.invariant.0, ((accepted c.args.file.now (spellings c.loop-i.words) (sym words)).1, tt))
+    record { count = c.loop-i.invariant.0; sorted = (accepted c.args.file.now (spellings c.loop-i.words) (sym words)).1 }
 
 pub returns : goal.returns
 returns c =

@@ -9,7 +9,7 @@ use Rattle.lexicon.proofs.word_file.loading.first_word.Goals as goal
 pub returns-then-count-lt4 : goal.returns-then-count-lt4
 returns-then-count-lt4 c =
     let bytes = c.args.bytes.now in
-    let count : c.letter-count-count.result ≡ letter_count bytes = c.letter-count-count.ensures.count in
+    let count : c.letter_count-count.result ≡ letter_count bytes = c.letter_count-count.ensures.count in
     let faulty : begins_with_line bytes ≡ false =
     elim c.then-count-lt4.branch [
       | goal.then-count-lt4-via-then-count-lt4 w ↦ too_few bytes (omega (arith, w.if-count-lt4.true))
@@ -23,8 +23,8 @@ returns-then-count-lt4 c =
 pub returns : goal.returns
 returns c =
     let bytes = c.args.bytes.now in
-    let count : c.letter-count-count.result ≡ letter_count bytes = c.letter-count-count.ensures.count in
+    let count : c.letter_count-count.result ≡ letter_count bytes = c.letter_count-count.ensures.count in
     let right : begins_with_line bytes ≡ true =
     is_line bytes (omega (arith, c.if-count-lt4.false)) (omega (arith, c.if-count-gt8.false)) (ap (λ n. get_or bytes n 0) (sym count) ∙ c.if-bytes-count-ne10.false) in
-    let whole : c.letter-count-count.result - 0 ≡ letter_count bytes = omega arith in
-    ap Some (c.word-of.ensures ∙ ap (λ n. take n bytes) whole) ∙ sym (cond-true (begins_with_line bytes) (Some (letters_of bytes)) None right)
+    let whole : c.letter_count-count.result - 0 ≡ letter_count bytes = omega arith in
+    ap Some (c.word_of.ensures ∙ ap (λ n. take n bytes) whole) ∙ sym (cond-true (begins_with_line bytes) (Some (letters_of bytes)) None right)
