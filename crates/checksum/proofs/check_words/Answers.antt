@@ -16,14 +16,14 @@ returns c =
     let ws = c.args.words.now in
     let z = element 0 in
     let one = element 1 in
-    let s = c.of-customization.result in
-    let a = c.followed-by-all.result in
-    let l = c.followed-by-all-remainder.result in
+    let s = c.of_customization.result in
+    let a = c.followed_by_all.result in
+    let l = c.followed_by_all-remainder.result in
     let to-words : a.high ∷ a.middle ∷ a.low ∷ [] ≡ divided z z one (front e ++ ws) =
-    c.followed-by-all.ensures ∙ remainder-divided s.high s.middle s.low ws
-    ∙ divided-append z z one (front e) ws s.high s.middle s.low (c.of-customization.ensures ∙ remainder-divided z z one (front e)) in
+    c.followed_by_all.ensures ∙ remainder-divided s.high s.middle s.low ws
+    ∙ divided-append z z one (front e) ws s.high s.middle s.low (c.of_customization.ensures ∙ remainder-divided z z one (front e)) in
     let to-zeros : l.high ∷ l.middle ∷ l.low ∷ [] ≡ divided z z one (front e ++ (ws ++ zeros)) =
-    c.followed-by-all-remainder.ensures
+    c.followed_by_all-remainder.ensures
     ∙ ap (λ y. remainder_of (a.high ∷ a.middle ∷ a.low ∷ y ∷ y ∷ y ∷ [])) c.zero-zero.ensures
     ∙ remainder-divided a.high a.middle a.low zeros
     ∙ divided-append z z one (front e ++ ws) zeros a.high a.middle a.low to-words

@@ -18,9 +18,9 @@ loop-byte-preserved c =
     let bytes = c.customization-bytes.result.now in
     let i = c.loop-byte.byte-index in
     let v = c.loop-byte.value in
-    let b : c.from-byte.result ≡ element (get_or bytes i 0) = sym (element-value c.from-byte.result) ∙ ap element c.from-byte.ensures in
-    let one : c.evaluate-value.result ≡ sum c.from-byte.result (product x v) =
-    one_more x v c.from-byte.result c.evaluate-value.result c.evaluate-value.ensures in
+    let b : c.from_byte.result ≡ element (get_or bytes i 0) = sym (element-value c.from_byte.result) ∙ ap element c.from_byte.ensures in
+    let one : c.evaluate-value.result ≡ sum c.from_byte.result (product x v) =
+    one_more x v c.from_byte.result c.evaluate-value.result c.evaluate-value.ensures in
     c.loop-byte.invariant
     ∙ ap (λ l. at x v (map element l)) (next_number bytes i c.loop-byte-test.true)
     ∙ ap (λ y. at x y (map element (drop (i + 1) bytes))) (sym (one ∙ ap (λ y. sum y (product x v)) b))

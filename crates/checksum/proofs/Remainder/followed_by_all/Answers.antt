@@ -10,10 +10,10 @@ loop-c-preserved c =
     let cs = c.args.more.now in
     let i = c.loop-c.c-index in
     let old = c.loop-c.remainder in
-    let new = c.followed-by-remainder.result in
+    let new = c.followed_by-remainder.result in
     c.loop-c.invariant
     ∙ ap (divided old.high old.middle old.low) (next cs i c.c-item.result c.loop-c-test.true c.c-item.is)
-    ∙ one-step old.high old.middle old.low c.c-item.result (drop (i + 1) cs) new.high new.middle new.low c.followed-by-remainder.ensures
+    ∙ one-step old.high old.middle old.low c.c-item.result (drop (i + 1) cs) new.high new.middle new.low c.followed_by-remainder.ensures
 
 pub returns : goal.returns
 returns c =

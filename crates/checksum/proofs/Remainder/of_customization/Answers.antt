@@ -13,12 +13,12 @@ loop-byte-preserved c =
     let bytes = c.customization-bytes.result.now in
     let i = c.loop-byte.byte-index in
     let old = c.loop-byte.remainder in
-    let new = c.followed-by-remainder.result in
-    let b : element (get_or bytes i 0) ≡ c.from-byte.result = ap element (sym c.from-byte.ensures) ∙ element-value c.from-byte.result in
+    let new = c.followed_by-remainder.result in
+    let b : element (get_or bytes i 0) ≡ c.from_byte.result = ap element (sym c.from_byte.ensures) ∙ element-value c.from_byte.result in
     c.loop-byte.invariant
     ∙ ap (λ l. divided old.high old.middle old.low (map element l)) (next_number bytes i c.loop-byte-test.true)
     ∙ ap (λ y. divided old.high old.middle old.low (y ∷ map element (drop (i + 1) bytes))) b
-    ∙ one-step old.high old.middle old.low c.from-byte.result (map element (drop (i + 1) bytes)) new.high new.middle new.low c.followed-by-remainder.ensures
+    ∙ one-step old.high old.middle old.low c.from_byte.result (map element (drop (i + 1) bytes)) new.high new.middle new.low c.followed_by-remainder.ensures
 
 pub returns : goal.returns
 returns c =
