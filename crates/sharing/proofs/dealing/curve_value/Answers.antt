@@ -8,14 +8,14 @@ use Rattle.sharing.proofs.dealing.curve_value.Goals as goal
 never : (r : Bool) → r ≡ false → r ≡ true → ⊥
 never r a b = let z : ◌≡◌ {A = ℕ} 0 1 = cc in omega arith
 
-pub returns-then-not-are-dealable : goal.returns-then-not-are-dealable
-returns-then-not-are-dealable g c =
+pub returns-then-not-are_dealable : goal.returns-then-not-are_dealable
+returns-then-not-are_dealable g c =
     let d = g.D.KeyedDigest in
     let m = g.met.D.KeyedDigest in
     record {
       answer = (
-        (λ given. never c.are-dealable.result c.if-not-are-dealable.true
-            (c.are-dealable.ensures.1
+        (λ given. never c.are_dealable.result c.if-not-are_dealable.true
+            (c.are_dealable.ensures.1
             (subst (λ t. Dealable t c.args.secret.now c.args.drawn.now c.args.work.now c.args.value.now) (sym c.from-t.ensures) given))),
         refl,
       );
@@ -29,9 +29,9 @@ returns-then-t-lt2 g c =
     record {
       answer = (
         subst (λ t. Dealable t c.args.secret.now c.args.drawn.now c.args.work.now c.args.value.now) c.from-t.ensures
-            (c.are-dealable.ensures.0 c.if-not-are-dealable.false),
-        dealt_one d.keyed c.args.secret.now c.args.drawn.now c.args.x c.args.threshold.value c.from-t.result c.copy-from-slice.new.self
-            c.from-t.ensures c.if-t-lt2.true c.copy-from-slice.ensures.after,
+            (c.are_dealable.ensures.0 c.if-not-are_dealable.false),
+        dealt_one d.keyed c.args.secret.now c.args.drawn.now c.args.x c.args.threshold.value c.from-t.result c.copy_from_slice.new.self
+            c.from-t.ensures c.if-t-lt2.true c.copy_from_slice.ensures.after,
       );
       curve = Laws.dealt d.keyed d.size m.small m.sized m.bytes;
     }
@@ -43,9 +43,9 @@ returns g c =
     record {
       answer = (
         subst (λ t. Dealable t c.args.secret.now c.args.drawn.now c.args.work.now c.args.value.now) c.from-t.ensures
-            (c.are-dealable.ensures.0 c.if-not-are-dealable.false),
-        dealt_more d.keyed c.args.secret.now c.args.drawn.now c.args.x c.args.threshold.value c.from-t.result c.fill-dealt.new.value
-            c.from-t.ensures c.if-t-lt2.false c.fill-dealt.ensures,
+            (c.are_dealable.ensures.0 c.if-not-are_dealable.false),
+        dealt_more d.keyed c.args.secret.now c.args.drawn.now c.args.x c.args.threshold.value c.from-t.result c.fill_dealt.new.value
+            c.from-t.ensures c.if-t-lt2.false c.fill_dealt.ensures,
       );
       curve = Laws.dealt d.keyed d.size m.small m.sized m.bytes;
     }

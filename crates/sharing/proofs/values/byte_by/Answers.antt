@@ -4,11 +4,11 @@ use Rattle.sharing.proofs.values.byte_by.Goals as goal
 
 pub unwrap-requires : goal.unwrap-requires
 unwrap-requires c =
-    there c.args.n c.args.xs.now c.args.values.now c.args.x c.args.j c.fill-points.new.points c.new.result c.interpolate.result
-    c.type-inv.xs c.type-inv.values c.requires.0 c.fill-points.ensures c.interpolate.ensures.lagrange
+    there c.args.n c.args.xs.now c.args.values.now c.args.x c.args.j c.fill_points.new.points c.new.result c.interpolate.result
+    c.type_inv.xs c.type_inv.values c.requires.0 c.fill_points.ensures c.interpolate.ensures.lagrange
 
 pub returns : goal.returns
 returns c =
-    byte_is c.args.n c.args.xs.now c.args.values.now c.args.x c.args.j c.fill-points.new.points c.new.result c.interpolate.result
-    c.type-inv.xs c.type-inv.values c.requires.0 c.fill-points.ensures c.interpolate.ensures.lagrange
+    byte_is c.args.n c.args.xs.now c.args.values.now c.args.x c.args.j c.fill_points.new.points c.new.result c.interpolate.result
+    c.type_inv.xs c.type_inv.values c.requires.0 c.fill_points.ensures c.interpolate.ensures.lagrange
     c.unwrap.result c.value.result c.ranges.x.fits c.new.ensures c.unwrap.ensures c.value.ensures

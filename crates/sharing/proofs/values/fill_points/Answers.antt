@@ -10,7 +10,7 @@ bounds-values-i c = within c.args.n c.loop-i.i c.args.j c.args.xs.now c.args.val
 pub loop-i-preserved : goal.loop-i-preserved
 loop-i-preserved c =
     points_more c.args.n c.args.xs.now c.args.values.now c.loop-i.i c.args.j c.loop-i.points c.new.result c.new-in-loop-i.result
-    c.loop-i-test.true c.requires.1.0 (omega arith) (c.type-inv.xs c.loop-i.i).fits (c.type-inv.values (c.loop-i.i * c.args.n + c.args.j)).fits
+    c.loop-i-test.true c.requires.1.0 (omega arith) (c.type_inv.xs c.loop-i.i).fits (c.type_inv.values (c.loop-i.i * c.args.n + c.args.j)).fits
     c.new.ensures c.new-in-loop-i.ensures c.loop-i.invariant
 
 pub returns : goal.returns

@@ -11,7 +11,7 @@ loop-j-preserved c =
     let j = c.loop-j.j in
     let n = length c.args.value.now in
     let m : length value ≡ n = c.loop-j.auto.value in
-    λ k h. ap (λ b. get_or (set value j b) k 0) (c.byte-at.ensures ∙ ap (λ n. byte_through (shares_of n c.args.xs.now c.args.values.now) c.args.x j) m)
+    λ k h. ap (λ b. get_or (set value j b) k 0) (c.byte_at.ensures ∙ ap (λ n. byte_through (shares_of n c.args.xs.now c.args.values.now) c.args.x j) m)
     ∙ fill_by_more (byte_through (shares_of n c.args.xs.now c.args.values.now) c.args.x) value j 0 (omega arith) c.loop-j.invariant k h
 
 pub returns : goal.returns
