@@ -198,10 +198,10 @@ impl<D: KeyedDigest> RoundFunction for Stretching<D> {
     ghost function = { stretched D.KeyedDigest.keyed D.KeyedDigest.size };
 
     ghost sized = { λ number phrase id flag e part h k.
-        let D = D.KeyedDigest in
-        let size : 0 < D.size = omega (arith, D.KeyedDigest.small.0) in
+        let D' = D.KeyedDigest in
+        let size : 0 < D'.size = omega (arith, D.KeyedDigest.small.0) in
         let some : 1 ≤ iterations e = omega (arith, pow_pos e) in
-        length-pbkdf2 D.keyed D.size D.KeyedDigest.sized size (number ∷ phrase) (salt_of id flag part) (iterations e) (length part) some };
+        length-pbkdf2 D'.keyed D'.size D.KeyedDigest.sized size (number ∷ phrase) (salt_of id flag part) (iterations e) (length part) some };
 
     ghost bytes = { λ number phrase id flag e part h k l m n.
         let D' = D.KeyedDigest in

@@ -10,13 +10,13 @@ step bytes i printable h e =
     at_drop_more (first_bad i) bytes i 0 h
     ∙ ap (λ b. cond b (first_bad (i + 1) (drop (i + 1) bytes)) (Some i)) (sym e)
 
-pub returns-then-not-is-printable : goal.returns-then-not-is-printable
-returns-then-not-is-printable c =
-    sym (step c.args.passphrase.now c.loop-i.i false c.loop-i-test.true c.if-not-is-printable.ensures) ∙ c.loop-i.invariant
+pub returns-then-not-is_printable : goal.returns-then-not-is_printable
+returns-then-not-is_printable c =
+    sym (step c.args.passphrase.now c.loop-i.i false c.loop-i-test.true c.if-not-is_printable.ensures) ∙ c.loop-i.invariant
 
 pub loop-i-preserved : goal.loop-i-preserved
 loop-i-preserved c =
-    sym (step c.args.passphrase.now c.loop-i.i true c.loop-i-test.true c.if-not-is-printable.ensures) ∙ c.loop-i.invariant
+    sym (step c.args.passphrase.now c.loop-i.i true c.loop-i-test.true c.if-not-is_printable.ensures) ∙ c.loop-i.invariant
 
 pub returns : goal.returns
 returns c =

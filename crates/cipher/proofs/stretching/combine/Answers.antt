@@ -13,9 +13,9 @@ returns g c =
     let text : List ℕ = c.args.text.now in
     let f : List ℕ → List ℕ = D.keyed key in
     let link : List ℕ = c.digest.new.out in
-    let total : List ℕ = c.copy-from-slice.new.self in
+    let total : List ℕ = c.copy_from_slice.new.self in
     let long : length link ≡ L = omega (arith, c.digest.auto.out, c.requires.room.0) in
-    let long2 : length total ≡ L = omega (arith, c.copy-from-slice.auto.self, c.requires.room.1) in
+    let long2 : length total ≡ L = omega (arith, c.copy_from_slice.auto.self, c.requires.room.1) in
     let first = digest_whole L key text c.args.link.now (f text) link c.digest.result c.requires.fits.0 c.requires.fits.1 c.requires.room.0 c.digest.ensures.answer c.digest.ensures.writes in
     chain_whole L key link total total (chain_total f (take L link) (take L total) (c.args.count - 1)) c.chain.new.total c.chain.result c.requires.fits.0 long long2 long2 c.chain.ensures.answer c.chain.ensures.sum
-    ∙ chain_combined f text L c.args.count link total c.requires.fits.2 first c.copy-from-slice.ensures.after long
+    ∙ chain_combined f text L c.args.count link total c.requires.fits.2 first c.copy_from_slice.ensures.after long

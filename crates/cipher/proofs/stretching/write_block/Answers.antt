@@ -14,8 +14,8 @@ numbered text d e h same =
 pub returns : goal.returns
 returns g c =
     let f : List ℕ → List ℕ = g.D.KeyedDigest.keyed c.args.password.now in
-    let put = c.copy-from-slice.ensures.after ∙ c.to-be-bytes.ensures in
+    let put = c.copy_from_slice.ensures.after ∙ c.to_be_bytes.ensures in
     record {
-      gives = c.combine.ensures ∙ ap (λ t. combined f t c.args.count) (numbered c.args.text.now c.copy-from-slice.new.self (int c.args.number) c.requires.fits.1 put);
+      gives = c.combine.ensures ∙ ap (λ t. combined f t c.args.count) (numbered c.args.text.now c.copy_from_slice.new.self (int c.args.number) c.requires.fits.1 put);
       keeps = search (rules, overwrites);
     }

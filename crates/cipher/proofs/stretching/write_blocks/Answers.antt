@@ -17,8 +17,8 @@ salt_is f text before block number c same e was =
 pub loop-i-init : goal.loop-i-init
 loop-i-init g c = (refl, omega (arith, zero-mul g.D.KeyedDigest.size), refl)
 
-pub write-block-requires : goal.write-block-requires
-write-block-requires g c = record {
+pub write_block-requires : goal.write_block-requires
+write_block-requires g c = record {
   fits = (c.requires.fits.0, omega arith, omega arith, c.requires.fits.3);
   room = (c.loop-i.auto.link ∙ c.requires.room.0, c.loop-i.auto.total ∙ c.requires.room.1);
 }
@@ -37,13 +37,13 @@ loop-i-preserved g c =
     let is : c.length-size.result ≡ L = c.length-size.ensures in
     let some : 0 < L = omega (arith, g.met.D.KeyedDigest.small.0) in
     let more : i < block_count L n = rw is at c.loop-i-test.true in
-    let long : length c.write-block.new.total ≡ L = c.write-block.auto.total ∙ c.loop-i.auto.total ∙ c.requires.room.1 in
-    let ends : c.append-cut-at.result ≡ min (at + L) n = c.append-cut-at.ensures.end ∙ ap (λ k. min (at + k) (length c.loop-i.out)) long ∙ ap (λ k. min (at + L) k) c.loop-i.auto.out in
-    let block = salt_is f text c.loop-i.text c.write-block.new.total (int (i + 1)) c.args.count same c.write-block.ensures.gives was in (
-      salt_kept text c.loop-i.text c.write-block.new.text same c.write-block.ensures.keeps was,
-      next_end L n i at c.append-cut-at.result c.loop-i.invariant.1 ends,
-      blocks_step f L (g.met.D.KeyedDigest.sized c.args.password.now) some (take (length text - 4) text) c.args.count n i at c.append-cut-at.result
-          c.loop-i.out c.append-cut-at.new.space c.write-block.new.total c.requires.fits.3 more c.loop-i.invariant.1 c.loop-i.invariant.2 block c.append-cut-at.ensures.holds,
+    let long : length c.write_block.new.total ≡ L = c.write_block.auto.total ∙ c.loop-i.auto.total ∙ c.requires.room.1 in
+    let ends : c.append_cut-at.result ≡ min (at + L) n = c.append_cut-at.ensures.end ∙ ap (λ k. min (at + k) (length c.loop-i.out)) long ∙ ap (λ k. min (at + L) k) c.loop-i.auto.out in
+    let block = salt_is f text c.loop-i.text c.write_block.new.total (int (i + 1)) c.args.count same c.write_block.ensures.gives was in (
+      salt_kept text c.loop-i.text c.write_block.new.text same c.write_block.ensures.keeps was,
+      next_end L n i at c.append_cut-at.result c.loop-i.invariant.1 ends,
+      blocks_step f L (g.met.D.KeyedDigest.sized c.args.password.now) some (take (length text - 4) text) c.args.count n i at c.append_cut-at.result
+          c.loop-i.out c.append_cut-at.new.space c.write_block.new.total c.requires.fits.3 more c.loop-i.invariant.1 c.loop-i.invariant.2 block c.append_cut-at.ensures.holds,
     )
 
 pub returns : goal.returns

@@ -2,5 +2,5 @@
 use Rattle.std.proofs.Common.{length}
 use Rattle.cipher.proofs.wiped.+is_zero.Given as goal
 
-abbrev pub decreases-is-zero : goal.decreases-is-zero
-decreases-is-zero l = length l.bytes.now
+abbrev pub decreases-is_zero : goal.decreases-is_zero
+decreases-is_zero l = length l.bytes.now

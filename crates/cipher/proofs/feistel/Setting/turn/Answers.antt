@@ -14,4 +14,4 @@ returns g c =
     let right : List ℕ = take (length s - k) (drop k s) in
     let long : length right ≡ k = omega (arith, ap length (take_rest s k), length-drop k s) in
     let made = round_whole me.passphrase.now right c.args.mask.now (f right) c.apply.new.out c.apply.result c.requires.lawful (omega arith) (omega arith) (omega arith) c.apply.ensures.answer c.apply.ensures.writes in
-    turned-in-place f s c.apply.new.out c.xor-into.new.target c.rotate-left.new.self k (omega arith) made c.xor-into.ensures c.rotate-left.ensures.after
+    turned-in-place f s c.apply.new.out c.xor_into.new.target c.rotate_left.new.self k (omega arith) made c.xor_into.ensures c.rotate_left.ensures.after
