@@ -129,7 +129,7 @@ fn plain_str(bytes: &[u8]) -> &str
 /// The text of a card, at the front of the space.
 fn card_text_in<'a, L: Lexicon>(lexicon: &L, card: &Card, space: &'a mut [u8]) -> &'a str
     requires { length space.old ≡ 530 }
-    ensures { result.now ≡ text_of (words lexicon.now) (fields_of card.now) }
+    ensures { result.now ≡ text_of (L.words lexicon.now) (fields_of card.now) }
 {
     let count = write_card(lexicon, card, space).unwrap();
     plain_str(&space[0..count])
@@ -137,7 +137,7 @@ fn card_text_in<'a, L: Lexicon>(lexicon: &L, card: &Card, space: &'a mut [u8]) -
 
 /// The answer that shows the text of a card.
 pub fn text_line<L: Lexicon>(heap: Global, lexicon: &L, card: &Card) -> Result<String, AllocError>
-    ensures { IfOk result (λ s. string_bytes s ≡ text_line (words lexicon.now) (fields_of card.now)) }
+    ensures { IfOk result (λ s. string_bytes s ≡ text_line (L.words lexicon.now) (fields_of card.now)) }
 {
     let mut space = [0; LONGEST_TEXT];
     text_with(heap, card_text_in(lexicon, card, &mut space))

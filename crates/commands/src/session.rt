@@ -133,7 +133,7 @@ fn written_answer<L: Lexicon>(
     lexicon: &L,
     res: Result<Card, Refusal>,
 ) -> Result<Answer, AllocError>
-    ensures { IfOk result (WrittenAnswer (words lexicon.now) (meant res)) }
+    ensures { IfOk result (WrittenAnswer (L.words lexicon.now) (meant res)) }
 {
     match res {
         Ok(card) => Ok(Answer {
@@ -149,7 +149,7 @@ fn write_answer<L: Lexicon>(
     lexicon: &L,
     arguments: &[u8],
 ) -> Result<Answer, AllocError>
-    ensures { IfOk result (WriteAnswer (words lexicon.now) (fields_from (separated arguments.now))) }
+    ensures { IfOk result (WriteAnswer (L.words lexicon.now) (fields_from (separated arguments.now))) }
 {
     match card_parts(arguments) {
         Some(parts) => written_answer(heap, lexicon, parts.checked()),
@@ -163,7 +163,7 @@ fn respond<L: Lexicon>(
     lexicon: &L,
     command: Command<'_>,
 ) -> Result<Option<Answer>, AllocError>
-    ensures { IfOk result (Responds (words lexicon.now) (meaning command.entry)) }
+    ensures { IfOk result (Responds (L.words lexicon.now) (meaning command.entry)) }
 {
     let answer = match command {
         Command::Nothing => return Ok(None),
@@ -181,7 +181,7 @@ pub fn answer_line<L: Lexicon>(
     lexicon: &L,
     line: &[u8],
 ) -> Result<Option<Answer>, AllocError>
-    ensures { IfOk result (Responds (words lexicon.now) (request_of line.now)) }
+    ensures { IfOk result (Responds (L.words lexicon.now) (request_of line.now)) }
 {
     respond(heap, lexicon, parse(line))
 }

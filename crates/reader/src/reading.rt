@@ -16,7 +16,7 @@ use refusal::Refusal;
 
 /// The index that a word of the line counts for.
 fn look_up<L: Lexicon>(lexicon: &L, offset: usize, text: &[u8]) -> Result<WordIndex, Refusal>
-    ensures { indexed result ≡ index_at (words lexicon.now) offset text.now }
+    ensures { indexed result ≡ index_at (L.words lexicon.now) offset text.now }
 {
     if text.len() < 4 {
         return Err(Refusal::NoSuchWord { offset });
@@ -29,7 +29,7 @@ fn look_up<L: Lexicon>(lexicon: &L, offset: usize, text: &[u8]) -> Result<WordIn
 
 /// The words of a line without forbidden bytes.
 fn read_words<L: Lexicon>(lexicon: &L, line: &[u8]) -> Result<Words, Refusal>
-    ensures { MatchResult result (λ w. (ws : List ℕ) × (Holds w ws × (indices_in (words lexicon.now) (pieces_from line.now 0) ≡ Ok ws))) (λ e. indices_in (words lexicon.now) (pieces_from line.now 0) ≡ Err e) }
+    ensures { MatchResult result (λ w. (ws : List ℕ) × (Holds w ws × (indices_in (L.words lexicon.now) (pieces_from line.now 0) ≡ Ok ws))) (λ e. indices_in (L.words lexicon.now) (pieces_from line.now 0) ≡ Err e) }
 {
     let mut read = Words::none();
     let mut tokens = Tokens::new(line);
@@ -41,7 +41,7 @@ fn read_words<L: Lexicon>(lexicon: &L, line: &[u8]) -> Result<Words, Refusal>
 }
 
 fn read_line<L: Lexicon>(lexicon: &L, line: &[u8]) -> Result<Card, Refusal>
-    ensures { meant result ≡ reading_of (words lexicon.now) line.now }
+    ensures { meant result ≡ reading_of (L.words lexicon.now) line.now }
 {
     if let Some(offset) = first_forbidden(line) {
         return Err(Refusal::ForbiddenByte { offset });
@@ -54,10 +54,10 @@ fn read_line<L: Lexicon>(lexicon: &L, line: &[u8]) -> Result<Card, Refusal>
 /// words by which the card is written, `spelled` that every other line that spells them is read alike, and `damaged`
 /// that with one to three words replaced it is refused.
 pub fn read_card<L: Lexicon>(lexicon: &L, line: &[u8]) -> Result<Card, Refusal>
-    ensures which { meant result ≡ reading_of (words lexicon.now) line.now }
-    ensures back { (f : Fields) → meant result ≡ Ok f → WritesBack (words lexicon.now) line.now f }
-    ensures spelled { (f : Fields) → meant result ≡ Ok f → ReadAs (words lexicon.now) f }
-    ensures damaged { (f : Fields) → meant result ≡ Ok f → Notices (words lexicon.now) f }
+    ensures which { meant result ≡ reading_of (L.words lexicon.now) line.now }
+    ensures back { (f : Fields) → meant result ≡ Ok f → WritesBack (L.words lexicon.now) line.now f }
+    ensures spelled { (f : Fields) → meant result ≡ Ok f → ReadAs (L.words lexicon.now) f }
+    ensures damaged { (f : Fields) → meant result ≡ Ok f → Notices (L.words lexicon.now) f }
 {
     read_line(lexicon, line)
 }

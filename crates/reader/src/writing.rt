@@ -38,7 +38,7 @@ fn append_after_space(space: &mut [u8], at: usize, part: &[u8]) -> usize
 /// The word at `k`.
 fn word_at<L: Lexicon>(lexicon: &L, list: &Words, k: usize) -> Word
     requires { (k < list.now.count) × (list.now.count ≤ 59) }
-    ensures spells { spelling result ≡ slice_index_or (words lexicon.now) (slice_index (kept list.now) k) [] }
+    ensures spells { spelling result ≡ slice_index_or (L.words lexicon.now) (slice_index (kept list.now) k) [] }
     ensures least { 4 ≤ length (spelling result) }
     ensures most { length (spelling result) ≤ 8 }
 {
@@ -48,7 +48,7 @@ fn word_at<L: Lexicon>(lexicon: &L, list: &Words, k: usize) -> Word
 /// How many bytes the text of the words has.
 fn text_length<L: Lexicon>(lexicon: &L, list: &Words) -> usize
     requires { (1 ≤ list.now.count) × (list.now.count ≤ 59) }
-    ensures { result ≡ length (spell (words lexicon.now) (kept list.now)) }
+    ensures { result ≡ length (spell (L.words lexicon.now) (kept list.now)) }
 {
     let mut total = word_at(lexicon, list, 0).bytes().len();
     for k in 1..list.count {
@@ -60,8 +60,8 @@ fn text_length<L: Lexicon>(lexicon: &L, list: &Words) -> usize
 /// Writes the text of the words, for which there is room.
 fn write_words<L: Lexicon>(lexicon: &L, list: &Words, space: &mut [u8])
     requires counted { (1 ≤ list.now.count) × (list.now.count ≤ 59) }
-    requires room { length (spell (words lexicon.now) (kept list.now)) ≤ length space.old }
-    ensures { space.new ≡ spell (words lexicon.now) (kept list.now) ++ drop (length (spell (words lexicon.now) (kept list.now))) space.old }
+    requires room { length (spell (L.words lexicon.now) (kept list.now)) ≤ length space.old }
+    ensures { space.new ≡ spell (L.words lexicon.now) (kept list.now) ++ drop (length (spell (L.words lexicon.now) (kept list.now))) space.old }
 {
     let mut at = append(space, 0, word_at(lexicon, list, 0).bytes());
     for k in 1..list.count {
@@ -72,13 +72,13 @@ fn write_words<L: Lexicon>(lexicon: &L, list: &Words, space: &mut [u8])
 /// Writes the card's text, one space between words, and answers how many bytes it has: at most 530. A space too short
 /// for it is left as it was.
 pub fn write_card<L: Lexicon>(lexicon: &L, card: &Card, space: &mut [u8]) -> Result<usize, Refusal>
-    ensures count { result ≡ count_or_refusal (text_of (words lexicon.now) (fields_of card.now)) space.old }
-    ensures writes { space.new ≡ space_after result (text_of (words lexicon.now) (fields_of card.now)) space.old }
-    ensures short { length (text_of (words lexicon.now) (fields_of card.now)) ≤ 530 }
-    ensures plain { Plain (text_of (words lexicon.now) (fields_of card.now)) }
-    ensures reads { reading_of (words lexicon.now) (text_of (words lexicon.now) (fields_of card.now)) ≡ Ok (fields_of card.now) }
-    ensures spelled { ReadAs (words lexicon.now) (fields_of card.now) }
-    ensures damaged { Notices (words lexicon.now) (fields_of card.now) }
+    ensures count { result ≡ count_or_refusal (text_of (L.words lexicon.now) (fields_of card.now)) space.old }
+    ensures writes { space.new ≡ space_after result (text_of (L.words lexicon.now) (fields_of card.now)) space.old }
+    ensures short { length (text_of (L.words lexicon.now) (fields_of card.now)) ≤ 530 }
+    ensures plain { Plain (text_of (L.words lexicon.now) (fields_of card.now)) }
+    ensures reads { reading_of (L.words lexicon.now) (text_of (L.words lexicon.now) (fields_of card.now)) ≡ Ok (fields_of card.now) }
+    ensures spelled { ReadAs (L.words lexicon.now) (fields_of card.now) }
+    ensures damaged { Notices (L.words lexicon.now) (fields_of card.now) }
 {
     let list = encode(card);
     let wanted = text_length(lexicon, &list);

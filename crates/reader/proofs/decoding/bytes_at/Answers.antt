@@ -10,11 +10,11 @@ pub loop-k-preserved : goal.loop-k-preserved
 loop-k-preserved c =
     let bytes = c.loop-k.bytes in
     let k = c.loop-k.k in
-    let b = c.bits-at.result in (
+    let b = c.bits_at.result in (
       length-set bytes k b ∙ c.loop-k.invariant.0,
       below_more (λ j. get_or (set bytes k b) j 0 ≡ bits_at (values c.args.words.now) (c.args.from + 8 * j) 8) k
           (λ j h. get_or-set_other bytes k j b 0 (λ e. omega arith) ∙ c.loop-k.invariant.1 j h)
-          (get_or-set_same bytes k b 0 (omega arith) ∙ c.bits-at.ensures.value),
+          (get_or-set_same bytes k b 0 (omega arith) ∙ c.bits_at.ensures.value),
     )
 
 pub returns : goal.returns

@@ -11,7 +11,7 @@ use Rattle.reader.proofs.decoding.card.Goals as goal
 pub returns : goal.returns
 returns c ws h =
     let n = c.args.words.now.count in
-    let fits : count_fits (length ws) ≡ true = ap count_fits (sym h.count) ∙ sym c.if-not-count-fits.ensures in
+    let fits : count_fits (length ws) ≡ true = ap count_fits (sym h.count) ∙ sym c.if-not-count_fits.ensures in
     let most : length ws ≤ 59 = leb-true (length ws) 59 (and_parts (leb (length ws) 59) (leb (padding_bits (length ws)) 8) (and_parts (leb 20 (length ws)) _ fits).1).0 in
     let all : values (take (n - 0) c.args.words.now.elements) ≡ ws =
     ap (λ m. values (take m c.args.words.now.elements)) (omega (arith, h.count)) ∙ h.first ∙ take_all 59 ws most in

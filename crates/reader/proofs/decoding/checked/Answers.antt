@@ -10,25 +10,25 @@ use Rattle.reader.specs.Reading.{fields_in, padding_bits, checked_fields}
 use Rattle.reader.proofs.CheckedFields.{passed, refused}
 use Rattle.reader.proofs.decoding.checked.Goals as goal
 
-pub returns-then-bits-at-ne0 : goal.returns-then-bits-at-ne0
-returns-then-bits-at-ne0 c =
+pub returns-then-bits_at-ne0 : goal.returns-then-bits_at-ne0
+returns-then-bits_at-ne0 c =
     let ws = values c.args.words.now in
     let size : length ws ≡ length c.args.words.now = length-map c.args.words.now (λ a. a.value) in
     let right : is_right (fields_in ws).extendable ws ≡ true =
-    ap (λ b. is_right (eqb b 1) ws) (sym c.bits-at.ensures.value) ∙ sym c.if-not-is-right.ensures.remainder in
-    let padding : c.bits-at-2.result ≡ bits_at ws 40 (padding_bits (length ws)) =
-    c.bits-at-2.ensures.value ∙ ap (λ n. bits_at ws 40 (padding_bits n)) (sym size) in
+    ap (λ b. is_right (eqb b 1) ws) (sym c.bits_at.ensures.value) ∙ sym c.if-not-is_right.ensures.remainder in
+    let padding : c.bits_at-2.result ≡ bits_at ws 40 (padding_bits (length ws)) =
+    c.bits_at-2.ensures.value ∙ ap (λ n. bits_at ws 40 (padding_bits n)) (sym size) in
     sym (passed (is_right (fields_in ws).extendable ws) WrongChecksum _ right
-    ∙ refused (eqb (bits_at ws 40 (padding_bits (length ws))) 0) PaddingNotZero (checked_fields (fields_in ws)) (ne_eqb _ 0 (λ e. c.if-bits-at-ne0.true (padding ∙ e))))
+    ∙ refused (eqb (bits_at ws 40 (padding_bits (length ws))) 0) PaddingNotZero (checked_fields (fields_in ws)) (ne_eqb _ 0 (λ e. c.if-bits_at-ne0.true (padding ∙ e))))
 
 pub returns : goal.returns
 returns c =
     let ws = values c.args.words.now in
     let size : length ws ≡ length c.args.words.now = length-map c.args.words.now (λ a. a.value) in
     let right : is_right (fields_in ws).extendable ws ≡ true =
-    ap (λ b. is_right (eqb b 1) ws) (sym c.bits-at.ensures.value) ∙ sym c.if-not-is-right.ensures.remainder in
-    let padding : c.bits-at-2.result ≡ bits_at ws 40 (padding_bits (length ws)) =
-    c.bits-at-2.ensures.value ∙ ap (λ n. bits_at ws 40 (padding_bits n)) (sym size) in
+    ap (λ b. is_right (eqb b 1) ws) (sym c.bits_at.ensures.value) ∙ sym c.if-not-is_right.ensures.remainder in
+    let padding : c.bits_at-2.result ≡ bits_at ws 40 (padding_bits (length ws)) =
+    c.bits_at-2.ensures.value ∙ ap (λ n. bits_at ws 40 (padding_bits n)) (sym size) in
     c.fields.ensures
     ∙ sym (passed (is_right (fields_in ws).extendable ws) WrongChecksum _ right
-    ∙ passed (eqb (bits_at ws 40 (padding_bits (length ws))) 0) PaddingNotZero (checked_fields (fields_in ws)) (eq-eqb _ 0 (sym padding ∙ c.if-bits-at-ne0.false)))
+    ∙ passed (eqb (bits_at ws 40 (padding_bits (length ws))) 0) PaddingNotZero (checked_fields (fields_in ws)) (eq-eqb _ 0 (sym padding ∙ c.if-bits_at-ne0.false)))

@@ -13,6 +13,6 @@ returns c =
     let size : length ws ≡ length c.args.words.now = length-map c.args.words.now (λ a. a.value) in
     c.checked.ensures
     ∙ ap checked_fields
-    (same_fields _ (fields_in ws) c.identifier.ensures (ap (λ b. eqb b 1) c.bits-at.ensures.value) c.exponent.ensures c.group-number.ensures
-    c.threshold.ensures c.group-count.ensures c.member-number.ensures c.threshold-2.ensures
+    (same_fields _ (fields_in ws) c.identifier.ensures (ap (λ b. eqb b 1) c.bits_at.ensures.value) c.exponent.ensures c.group_number.ensures
+    c.threshold.ensures c.group_count.ensures c.member_number.ensures c.threshold-2.ensures
     (c.value.ensures.bytes ∙ ap (λ n. bytes_at ws (40 + padding_bits n) (value_length n)) (sym size)))

@@ -11,8 +11,8 @@ use Rattle.reader.proofs.encoding.data_words.Goals as goal
 pub loop-k-init : goal.loop-k-init
 loop-k-init c =
     let header = words_for 4 (header_number (fields_of c.args.card.now)) in
-    let h = c.header-words-words.ensures in
-    (subst (Holds c.header-words-words.result) (sym (append-nil header)) h, h.count ∙ length-words_for 4 (header_number (fields_of c.args.card.now)))
+    let h = c.header_words-words.ensures in
+    (subst (Holds c.header_words-words.result) (sym (append-nil header)) h, h.count ∙ length-words_for 4 (header_number (fields_of c.args.card.now)))
 
 pub loop-k-preserved : goal.loop-k-preserved
 loop-k-preserved c =
@@ -21,9 +21,9 @@ loop-k-preserved c =
     let count = (8 * length value + 9) / 10 in
     let k = c.loop-k.k in
     let words = words_for count (number 256 value) in
-    let w = c.value-word.result.value in
+    let w = c.value_word.result.value in
     let size : length words ≡ count = length-words_for count (number 256 value) in
-    let is : w ≡ get_or words k 0 = c.value-word.ensures ∙ sym (words_for-at count (number 256 value) k c.loop-k-test.true) in
+    let is : w ≡ get_or words k 0 = c.value_word.ensures ∙ sym (words_for-at count (number 256 value) k c.loop-k-test.true) in
     let more : (header ++ take k words) ++ (w ∷ []) ≡ header ++ take (k + 1) words =
     append_assoc header (take k words) (w ∷ []) ∙ ap (λ l. header ++ l) (ap (λ x. take k words ++ (x ∷ [])) is ∙ sym (take_more words k 0 (omega arith))) in
     (subst (Holds c.push.new.self) more (c.push.ensures.holds (header ++ take k words) c.loop-k.invariant.0), omega (arith, c.push.ensures.counts, c.loop-k.invariant.1))

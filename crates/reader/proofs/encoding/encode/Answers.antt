@@ -24,21 +24,21 @@ returns c =
     let f = fields_of c.args.card.now in
     let D = data_words f in
     let e = f.extendable in
-    let held = c.data-words-words.ensures.holds in
-    let n = c.data-words-words.result.count in
-    let few = c.data-words-words.ensures.few in
-    let r = c.check-words-check.result in
-    let front : values (take (n - 0) c.data-words-words.result.elements) ≡ D =
-    ap (λ m. values (take m c.data-words-words.result.elements)) (omega (arith, held.count)) ∙ held.first ∙ take_all 59 D (omega (arith, held.count)) in
+    let held = c.data_words-words.ensures.holds in
+    let n = c.data_words-words.result.count in
+    let few = c.data_words-words.ensures.few in
+    let r = c.check_words-check.result in
+    let front : values (take (n - 0) c.data_words-words.result.elements) ≡ D =
+    ap (λ m. values (take m c.data_words-words.result.elements)) (omega (arith, held.count)) ∙ held.first ∙ take_all 59 D (omega (arith, held.count)) in
     let check : values r ≡ check_words_of (customization e ++ D) =
-    c.check-words-check.ensures.value ∙ ap (λ l. check_words_of (customization e ++ l)) front in
+    c.check_words-check.ensures.value ∙ ap (λ l. check_words_of (customization e ++ l)) front in
     let size : length r ≡ 3 = sym (length-map r (λ a. a.value)) ∙ ap length check ∙ three-checks e D (data_small f) in
-    let x = c.index-of.result.value in
-    let y = c.index-of-2.result.value in
-    let z = c.index-of-3.result.value in
+    let x = c.index_of.result.value in
+    let y = c.index_of-2.result.value in
+    let z = c.index_of-3.result.value in
     let h1 = c.push.ensures.holds D held in
     let h2 = c.push-2.ensures.holds _ h1 in
     let h3 = c.push-3.ensures.holds _ h2 in
     subst (Holds c.push-3.new.self)
     (append_assoc (D ++ (x ∷ [])) (y ∷ []) (z ∷ []) ∙ append_assoc D (x ∷ []) (y ∷ z ∷ [])
-    ∙ ap (λ l. D ++ l) (three r c.index-check-0.result c.index-check-1.result c.index-check-2.result x y z size c.index-of.ensures c.index-of-2.ensures c.index-of-3.ensures ∙ check)) h3
+    ∙ ap (λ l. D ++ l) (three r c.index-check-0.result c.index-check-1.result c.index-check-2.result x y z size c.index_of.ensures c.index_of-2.ensures c.index_of-3.ensures ∙ check)) h3

@@ -14,8 +14,8 @@ returns c =
     let after = c.args.after in
     let n = length value in
     let from = 8 * n - 2 - after in
-    let pair = c.byte-after-zero-high.result * 256 + c.byte-after-zero-low.result in
-    let small : AllBelowBase 256 value = All-from_get_or (λ d. d < 256) value 0 (λ k h. (c.type-inv.value k).fits) in
+    let pair = c.byte_after_zero-high.result * 256 + c.byte_after_zero-low.result in
+    let small : AllBelowBase 256 value = All-from_get_or (λ d. d < 256) value 0 (λ k h. (c.type_inv.value k).fits) in
     let word : c.unwrap.result.value ≡ pair / 2 ^ (6 - from % 8) % 1024 =
     MatchOption-at_some (1024 ≤ pair / 2 ^ (6 - from % 8) % 1024) (λ i. i.value ≡ pair / 2 ^ (6 - from % 8) % 1024) c.unwrap.result c.unwrap.ensures c.new.ensures in
     let even = c.requires.even in
@@ -23,7 +23,7 @@ returns c =
     let off : 16 - from % 8 - 10 ≡ 6 - from % 8 = omega arith in
     let place : 8 * suc n - (8 * (from / 8) + from % 8 + 10) ≡ after = omega arith in
     word
-    ∙ ap₂ (λ a b. (a * 256 + b) / 2 ^ (6 - from % 8) % 1024) c.byte-after-zero-high.ensures.value c.byte-after-zero-low.ensures.value
+    ∙ ap₂ (λ a b. (a * 256 + b) / 2 ^ (6 - from % 8) % 1024) c.byte_after_zero-high.ensures.value c.byte_after_zero-low.ensures.value
     ∙ ap (λ p. (get_or (0 ∷ value) (from / 8) 0 * 256 + get_or (0 ∷ value) (from / 8 + 1) 0) / 2 ^ p % 1024) (sym off)
     ∙ bits-of-two 8 (0 ∷ value) (from / 8) (from % 8) 10 (omega arith, small) (omega arith) (omega arith)
     ∙ ap (λ p. number_from_digits 256 value / 2 ^ p % 1024) place

@@ -8,7 +8,7 @@ returns g c =
     let lexicon = g.L.Lexicon.words c.args.lexicon.now in
     let lawful = g.met.L.Lexicon.lawful c.args.lexicon.now in
     let line = c.args.line.now in
-    let which = c.read-line.ensures in
+    let which = c.read_line.ensures in
     record {
       which = which;
       back = λ f e. (read_back lexicon lawful line f (sym which ∙ e)).back;

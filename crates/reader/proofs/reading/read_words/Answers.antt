@@ -24,18 +24,18 @@ loop-offset-preserved g c =
     let same = c.loop-offset.invariant.0 in
     let front = c.loop-offset.invariant.2.0 in
     let gives = c.in-Word.ensures.gives in
-    let v = c.in-ok-index.index.value in
+    let v = c.in_ok-index.index.value in
     let kept = c.push.ensures.holds front c.loop-offset.invariant.2.1.0 in
     let size : length (front ++ (v ∷ [])) ≡ length front + 1 = length_push front v in
     let next =
-    subst (λ l. pieces_from l c.loop-offset.tokens.position ≡ word c.in-Word.offset c.in-Word.text.now ∷ pieces_from l c.next-token.new.self.position) same gives.0 in (
+    subst (λ l. pieces_from l c.loop-offset.tokens.position ≡ word c.in-Word.offset c.in-Word.text.now ∷ pieces_from l c.next_token.new.self.position) same gives.0 in (
       c.in-Word.ensures.same ∙ same,
       omega (arith, kept.count, gives.1, c.loop-offset.invariant.2.1.0.count),
       (
         front ++ (v ∷ []),
         (
           kept,
-          sym (one_more lexicon front c.in-Word.offset v c.in-Word.text.now _ _ next (sym c.in-ok-index.ensures)) ∙ c.loop-offset.invariant.2.1.1,
+          sym (one_more lexicon front c.in-Word.offset v c.in-Word.text.now _ _ next (sym c.in_ok-index.ensures)) ∙ c.loop-offset.invariant.2.1.1,
         ),
       ),
     )
@@ -52,11 +52,11 @@ returns g c =
     let lexicon = g.L.Lexicon.words c.args.lexicon.now in
     let front = c.loop-offset.invariant.2.0 in
     let p = c.loop-offset.tokens.position in
-    let q = c.next-token.new.self.position in
-    let gives = subst (λ l. Gives l p c.next-token.result q) c.loop-offset.invariant.0 c.next-token.ensures.gives in (
+    let q = c.next_token.new.self.position in
+    let gives = subst (λ l. Gives l p c.next_token.result q) c.loop-offset.invariant.0 c.next_token.ensures.gives in (
       front,
       (
         c.loop-offset.invariant.2.1.0,
-        sym c.loop-offset.invariant.2.1.1 ∙ ended lexicon c.args.line.now front p q c.next-token.result c.in-default.not-Word gives,
+        sym c.loop-offset.invariant.2.1.1 ∙ ended lexicon c.args.line.now front p q c.next_token.result c.in_default.not-Word gives,
       ),
     )

@@ -11,8 +11,8 @@ loop-k-init g c =
     let lexicon = g.L.Lexicon.words c.args.lexicon.now in
     let list = c.args.list.now in
     let size = kept-length list c.requires.1 in
-    let word = c.bytes-total.ensures ∙ c.word-at.ensures.spells in
-    (ap length (word ∙ sym (spell_one lexicon (kept list) (omega arith))), omega (arith, ap length c.bytes-total.ensures, c.word-at.ensures.most))
+    let word = c.bytes-total.ensures ∙ c.word_at.ensures.spells in
+    (ap length (word ∙ sym (spell_one lexicon (kept list) (omega arith))), omega (arith, ap length c.bytes-total.ensures, c.word_at.ensures.most))
 
 pub loop-k-preserved : goal.loop-k-preserved
 loop-k-preserved g c =
@@ -20,9 +20,9 @@ loop-k-preserved g c =
     let list = c.args.list.now in
     let k = c.loop-k.k in
     let size = kept-length list c.requires.1 in
-    let word = ap length (c.bytes.ensures ∙ c.word-at-in-loop-k.ensures.spells) in
+    let word = ap length (c.bytes.ensures ∙ c.word_at-in-loop-k.ensures.spells) in
     let more = more-length lexicon (kept list) k c.loop-k.auto.k (omega arith) in
-    (omega (arith, more, word, c.loop-k.invariant.0), omega (arith, ap length c.bytes.ensures, c.word-at-in-loop-k.ensures.most, c.loop-k.invariant.1))
+    (omega (arith, more, word, c.loop-k.invariant.0), omega (arith, ap length c.bytes.ensures, c.word_at-in-loop-k.ensures.most, c.loop-k.invariant.1))
 
 pub returns : goal.returns
 returns g c =

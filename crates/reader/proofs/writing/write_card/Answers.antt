@@ -35,13 +35,13 @@ all-kept card list h =
       same = ap (λ n. values (take n list.elements)) h.count ∙ h.first ∙ take_all 59 ws high;
     }
 
-pub text-length-wanted-requires : goal.text-length-wanted-requires
-text-length-wanted-requires g c = let w = all-kept c.args.card.now c.encode-list.result c.encode-list.ensures in (w.least, w.most)
+pub text_length-wanted-requires : goal.text_length-wanted-requires
+text_length-wanted-requires g c = let w = all-kept c.args.card.now c.encode-list.result c.encode-list.ensures in (w.least, w.most)
 
-pub write-words-requires : goal.write-words-requires
-write-words-requires g c =
+pub write_words-requires : goal.write_words-requires
+write_words-requires g c =
     let w = all-kept c.args.card.now c.encode-list.result c.encode-list.ensures in
-    record { counted = (w.least, w.most); room = omega (arith, c.text-length-wanted.ensures) }
+    record { counted = (w.least, w.most); room = omega (arith, c.text_length-wanted.ensures) }
 
 pub returns-then-space-wanted : goal.returns-then-space-wanted
 returns-then-space-wanted g c =
@@ -50,7 +50,7 @@ returns-then-space-wanted g c =
     let f = fields_of c.args.card.now in
     let ok = card_lawful c.args.card.now in
     let w = all-kept c.args.card.now c.encode-list.result c.encode-list.ensures in
-    let size : c.text-length-wanted.result ≡ length (text_of lexicon f) = c.text-length-wanted.ensures ∙ ap (λ l. length (spell lexicon l)) w.same in
+    let size : c.text_length-wanted.result ≡ length (text_of lexicon f) = c.text_length-wanted.ensures ∙ ap (λ l. length (spell lexicon l)) w.same in
     record {
       count = ap (λ n. Err (SpaceTooShort layer.Text n)) size
           ∙ sym (cond-false (leb (length (text_of lexicon f)) (length c.args.space.now)) _ _ (lt-leb (length (text_of lexicon f)) (length c.args.space.now) (omega (arith, size))));
@@ -69,11 +69,11 @@ returns g c =
     let f = fields_of c.args.card.now in
     let ok = card_lawful c.args.card.now in
     let w = all-kept c.args.card.now c.encode-list.result c.encode-list.ensures in
-    let size : c.text-length-wanted.result ≡ length (text_of lexicon f) = c.text-length-wanted.ensures ∙ ap (λ l. length (spell lexicon l)) w.same in
+    let size : c.text_length-wanted.result ≡ length (text_of lexicon f) = c.text_length-wanted.ensures ∙ ap (λ l. length (spell lexicon l)) w.same in
     record {
       count = ap Ok size
           ∙ sym (cond-true (leb (length (text_of lexicon f)) (length c.args.space.now)) _ _ (le-leb (length (text_of lexicon f)) (length c.args.space.now) (omega (arith, size))));
-      writes = c.write-words.ensures ∙ ap₂ (λ l n. spell lexicon l ++ drop n c.args.space.now) w.same (ap (λ l. length (spell lexicon l)) w.same ∙ sym size);
+      writes = c.write_words.ensures ∙ ap₂ (λ l n. spell lexicon l ++ drop n c.args.space.now) w.same (ap (λ l. length (spell lexicon l)) w.same ∙ sym size);
       short = text_short lexicon lawful f ok;
       plain = text_plain lexicon lawful f;
       reads = text_read lexicon lawful f ok;
