@@ -8,11 +8,11 @@ use Rattle.commands.proofs.answer.card_line.Goals as goal
 
 pub returns : goal.returns
 returns c =
-    IfOk-weaker c.card-with.result _ _
+    IfOk-weaker c.card_with.result _ _
     (λ s h.
     h ∙ card-parts (fields_of c.args.card.now)
-    (c.as-str.ensures.value ∙ c.in-ok-deal.ensures)
-    (c.as-str-2.ensures.value ∙ c.in-ok-group.ensures)
-    (c.as-str-3.ensures.value ∙ c.in-ok-member.ensures)
-    (c.as-str-4.ensures.value ∙ (c.in-ok-value.ensures ∙ ap hex_of c.bytes.ensures.bytes)))
-    c.card-with.ensures
+    (c.as_str.ensures.value ∙ c.in_ok-deal.ensures)
+    (c.as_str-2.ensures.value ∙ c.in_ok-group.ensures)
+    (c.as_str-3.ensures.value ∙ c.in_ok-member.ensures)
+    (c.as_str-4.ensures.value ∙ (c.in_ok-value.ensures ∙ ap hex_of c.bytes.ensures.bytes)))
+    c.card_with.ensures

@@ -8,19 +8,19 @@ use Rattle.commands.proofs.answer.card_text_in.Goals as goal
 pub unwrap-count-requires : goal.unwrap-count-requires
 unwrap-count-requires g c =
     let text = text_of (g.L.Lexicon.words c.args.lexicon.now) (fields_of c.args.card.now) in
-    ap is_ok (c.write-card.ensures.count ∙ fits-space text c.args.space.now (omega (arith, c.write-card.ensures.short, c.requires)))
+    ap is_ok (c.write_card.ensures.count ∙ fits-space text c.args.space.now (omega (arith, c.write_card.ensures.short, c.requires)))
 
-pub plain-str-requires : goal.plain-str-requires
-plain-str-requires g c =
+pub plain_str-requires : goal.plain_str-requires
+plain_str-requires g c =
     let text = text_of (g.L.Lexicon.words c.args.lexicon.now) (fields_of c.args.card.now) in
     subst Plain
-    (sym (written text c.args.space.now (omega (arith, c.write-card.ensures.short, c.requires)) c.write-card.new.space c.unwrap-count.result c.write-card.result
-    c.write-card.ensures.count c.unwrap-count.ensures c.write-card.ensures.writes))
-    c.write-card.ensures.plain
+    (sym (written text c.args.space.now (omega (arith, c.write_card.ensures.short, c.requires)) c.write_card.new.space c.unwrap-count.result c.write_card.result
+    c.write_card.ensures.count c.unwrap-count.ensures c.write_card.ensures.writes))
+    c.write_card.ensures.plain
 
 pub returns : goal.returns
 returns g c =
     let text = text_of (g.L.Lexicon.words c.args.lexicon.now) (fields_of c.args.card.now) in
-    c.plain-str.ensures
-    ∙ written text c.args.space.now (omega (arith, c.write-card.ensures.short, c.requires)) c.write-card.new.space c.unwrap-count.result c.write-card.result
-    c.write-card.ensures.count c.unwrap-count.ensures c.write-card.ensures.writes
+    c.plain_str.ensures
+    ∙ written text c.args.space.now (omega (arith, c.write_card.ensures.short, c.requires)) c.write_card.new.space c.unwrap-count.result c.write_card.result
+    c.write_card.ensures.count c.unwrap-count.ensures c.write_card.ensures.writes

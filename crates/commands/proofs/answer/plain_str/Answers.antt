@@ -3,4 +3,4 @@ use Rattle.commands.proofs.CardTexts.{plain_utf8, ok_since}
 use Rattle.commands.proofs.answer.plain_str.Goals as goal
 
 pub unwrap-requires : goal.unwrap-requires
-unwrap-requires c = ok_since c.from-utf8.result _ _ c.from-utf8.ensures.cases (λ e h. h.0 (plain_utf8 c.args.bytes.now c.requires))
+unwrap-requires c = ok_since c.from_utf8.result _ _ c.from_utf8.ensures.cases (λ e h. h.0 (plain_utf8 c.args.bytes.now c.requires))

@@ -4,4 +4,4 @@ use Rattle.commands.specs.Arguments.{separated}
 use Rattle.commands.proofs.arguments.argument.Given as goal
 
 abbrev pub invariant-loop-i : goal.invariant-loop-i
-invariant-loop-i l = separated l.left ≡ drop l.-i (separated l.line)
+invariant-loop-i l = separated l.left ≡ drop l._i (separated l.line)

@@ -11,13 +11,13 @@ returns-then-text-ne0 c =
     let text = c.args.text.now in
     elim c.then-text-ne0.either [ inl h ↦ odd_digits text h | inr h ↦ many-digits text (omega (arith, h.0, h.1)) ]
 
-pub returns-in-err-bytes : goal.returns-in-err-bytes
-returns-in-err-bytes c =
+pub returns-in_err-bytes : goal.returns-in_err-bytes
+returns-in_err-bytes c =
     let text = c.args.text.now in
     let i = c.loop-i.i in
     let two = two-more text i (omega arith) in
-    let none = pair-none (get_or text (2 * i) 0) (get_or text (2 * i + 1) 0) (drop (2 * (i + 1)) text) c.in-err-bytes.ensures in
-    ap (option_map (λ v. take v.length v.bytes)) c.from-residual.ensures
+    let none = pair-none (get_or text (2 * i) 0) (get_or text (2 * i + 1) 0) (drop (2 * (i + 1)) text) c.in_err-bytes.ensures in
+    ap (option_map (λ v. take v.length v.bytes)) c.from_residual.ensures
     ∙ no_digits text (sym c.loop-i.invariant.1 ∙ ap (only_digits 16) two ∙ none)
 
 pub loop-i-preserved : goal.loop-i-preserved
@@ -25,10 +25,10 @@ loop-i-preserved c =
     let text = c.args.text.now in
     let i = c.loop-i.i in
     let bytes = c.loop-i.bytes in
-    let b = c.in-ok-bytes.field-0 in
+    let b = c.in_ok-bytes.field-0 in
     let more = drop (2 * (i + 1)) text in
     let two = two-more text i (omega arith) in
-    let pair = pair-more (get_or text (2 * i) 0) (get_or text (2 * i + 1) 0) more b c.in-ok-bytes.ensures in (
+    let pair = pair-more (get_or text (2 * i) 0) (get_or text (2 * i + 1) 0) more b c.in_ok-bytes.ensures in (
       length-set bytes i b ∙ c.loop-i.invariant.0,
       sym pair.0 ∙ sym (ap (only_digits 16) two) ∙ c.loop-i.invariant.1,
       ap (λ front. front ++ bytes_in more) (take_more_set bytes i b (omega (arith, c.loop-i.invariant.0)))
