@@ -1,11 +1,11 @@
 -- The check words of numbers: they make the words right, and no others do.
-use Rattle.std.proofs.Common.{◌≡◌, ℕ, suc, ◌%◌, ◌<◌, Bool, true, List, [], ◌∷◌, ◌++◌, map, length, sym, refl, ap, ◌∙◌, subst, ap₂, mod-eq_of_lt, arith}
+use Rattle.std.proofs.Common.{◌≡◌, ℕ, Bool, true, List, [], ◌∷◌, ◌++◌, map, length, sym, refl, ap, ◌∙◌, subst, ap₂, mod-eq_of_lt, arith}
 use Rattle.std.specs.Int.Digits.{AllBelowBase}
 use Rattle.std.proofs.lemmas.List.{map-append}
 use Rattle.field.specs.declared.gf1024.Gf1024.{Gf1024}
-use Rattle.field.specs.Gf1024.{element, sum}
+use Rattle.field.specs.Gf1024.{element}
 use Rattle.checksum.specs.Values.{values}
-use Rattle.checksum.specs.Checksum.{customization, remainder_of, is_right, check_words_of}
+use Rattle.checksum.specs.Checksum.{customization, is_right, check_words_of}
 use Rattle.checksum.proofs.ChecksumPolynomial.{front}
 use Rattle.checksum.proofs.ChecksumRemainder.{divided, remainder-divided, three-left, is_right-ones, ones_is_right}
 use Rattle.checksum.proofs.ChecksumWords as W

@@ -1,10 +1,10 @@
 -- The polynomial of a card, and its value by Horner's rule.
-use Rattle.std.proofs.Common.{◌≡◌, ℕ, suc, ◌+◌, ◌<◌, Bool, List, [], ◌∷◌, ◌++◌, map, length, get_or, drop, sym, refl, ap, ◌∙◌, ap₂, add-one, drop-cons}
+use Rattle.std.proofs.Common.{◌≡◌, ℕ, ◌+◌, ◌<◌, Bool, List, [], ◌∷◌, ◌++◌, map, length, get_or, drop, sym, refl, ap, ◌∙◌, ap₂, add-one, drop-cons}
 use Rattle.field.specs.declared.gf1024.Gf1024.{Gf1024}
 use Rattle.field.specs.Gf1024.{element, sum, product}
 use Rattle.field.specs.Polynomial.{value_at}
 use Rattle.field.specs.Gf1024Laws.{element-value, laws}
-use Rattle.field.proofs.Horner.{after, after-append, after-value, from_zero}
+use Rattle.field.proofs.Horner.{after, after-append, after-value}
 use Rattle.checksum.specs.Values.{values}
 use Rattle.checksum.specs.Checksum.{customization, coefficients}
 

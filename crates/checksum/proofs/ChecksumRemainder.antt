@@ -1,5 +1,5 @@
 -- A card is right exactly when its polynomial leaves the remainder 1.
-use Rattle.std.proofs.Common.{◌≡◌, ℕ, zero, suc, ◌-◌, Bool, true, false, ◌&&◌, eqb, List, [], ◌∷◌, ◌++◌, map, length, sym, refl, ap, ◌∙◌, subst, ap₂, arith, lit≤}
+use Rattle.std.proofs.Common.{◌≡◌, ℕ, suc, ◌-◌, Bool, true, false, eqb, List, [], ◌∷◌, map, length, sym, refl, ap, ◌∙◌, ap₂, arith, lit≤}
 use Rattle.std.proofs.lemmas.Bool.{eqb-true, eq-eqb, and_parts, and_from, false≢true}
 use Rattle.field.specs.CarryLess.{times_x, product_by}
 use Rattle.field.specs.declared.gf1024.Gf1024.{Gf1024}
@@ -12,7 +12,7 @@ use Rattle.field.proofs.PolynomialDivision as Division
 use Rattle.field.proofs.SparsePolynomial.{sparse_short}
 use Rattle.checksum.specs.Values.{values}
 use Rattle.checksum.specs.Checksum.{coefficients, times_generator, remainder_of, equal_numbers, is_right, Right}
-use Rattle.checksum.proofs.ChecksumPolynomial.{at, val, elements-values}
+use Rattle.checksum.proofs.ChecksumPolynomial.{at, elements-values}
 use Rattle.checksum.proofs.ChecksumRoots.{Ones, no_difference, right_ones, ones_right}
 
 -- ---- the generator is x^3 + 14 x^2 + 56 x + 64

@@ -1,6 +1,5 @@
 -- A card is right exactly when its polynomial has the value 1 at a, a^2 and a^3, where a = 2.
-use Rattle.std.proofs.Common.{◌≡◌, ℕ, zero, suc, ◌<◌, ◌≤◌, Bool, true, false, not, T, eqb, List, [], ◌∷◌, ◌++◌, map, length, sym, refl, ap, ◌∙◌, subst, ap₂, arith, eq-eqb}
-use native.Mathlib.Nat.{suc_inj}
+use Rattle.std.proofs.Common.{◌≡◌, ℕ, zero, suc, ◌<◌, ◌≤◌, Bool, true, false, not, T, eqb, List, ◌∷◌, length, sym, refl, ap, ◌∙◌, subst, arith, eq-eqb}
 use Rattle.field.specs.CarryLess.{times_x, product_by}
 use Rattle.field.specs.declared.gf1024.Gf1024.{Gf1024}
 use Rattle.field.specs.Gf1024.{element, sum, product}

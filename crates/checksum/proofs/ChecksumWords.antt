@@ -1,12 +1,11 @@
 -- The remainder of the words and three zeros, plus 1, makes the words right, and nothing else does.
-use Rattle.std.proofs.Common.{◌≡◌, ℕ, suc, Bool, true, false, List, [], ◌∷◌, ◌++◌, map, length, drop, sym, refl, ap, ◌∙◌, ap₂, append_assoc, lit≤}
+use Rattle.std.proofs.Common.{◌≡◌, suc, Bool, true, false, List, [], ◌∷◌, ◌++◌, map, length, drop, sym, refl, ap, ◌∙◌, append_assoc, lit≤}
 use Rattle.field.specs.declared.gf1024.Gf1024.{Gf1024}
 use Rattle.field.specs.Gf1024.{element, sum, product}
 use Rattle.field.specs.Polynomial.{divide_steps, plus_constant}
 use Rattle.field.specs.Gf1024Laws.{laws}
 use Rattle.field.proofs.Horner.{after-append}
 use Rattle.field.proofs.PolynomialDivision as Division
-use Rattle.field.proofs.SparsePolynomial as Sparse
 use Rattle.field.proofs.SparsePolynomial.{sparse_short}
 use Rattle.checksum.specs.Values.{values}
 use Rattle.checksum.specs.Checksum.{customization, coefficients, remainder_of, check_words_of}

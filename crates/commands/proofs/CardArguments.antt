@@ -1,9 +1,9 @@
 -- The fields of a card, one argument after the other.
-use Rattle.std.proofs.Common.{◌≡◌, ℕ, zero, suc, Bool, true, false, cond, ◌&&◌, eqb, List, [], ◌∷◌, length, get_or, Some, None, Option, sym, refl, ap, ◌∙◌, arith}
+use Rattle.std.proofs.Common.{◌≡◌, ℕ, zero, suc, Bool, true, false, cond, eqb, List, [], ◌∷◌, length, get_or, Some, None, sym, refl, ap, ◌∙◌}
 use Rattle.std.proofs.lemmas.Bool.{and_left, and_right, and_from, cond-true, cond-false, eq-eqb, true≢false}
 use Rattle.reader.specs.Card.{Fields}
-use Rattle.commands.specs.Arguments.{argument_at, number_in, is_number, number_from, bytes_in, is_value, value_from, card_tests, all_pass, card_fields, fields_from}
-use Rattle.commands.proofs.DecimalNumbers.{some-passed, none-failed}
+use Rattle.commands.specs.Arguments.{argument_at, number_in, is_number, number_from, is_value, value_from, card_tests, all_pass, card_fields, fields_from}
+use Rattle.commands.proofs.DecimalNumbers.{some-passed}
 
 one-fails : (ts : List Bool) (k : ℕ) → get_or ts k true ≡ false → all_pass ts ≡ false
 one-fails [] k e = absurd (true≢false e)

@@ -1,5 +1,5 @@
 -- The text of a card as it is written into a space that is long enough.
-use Rattle.std.proofs.Common.{◌≡◌, ℕ, ◌-◌, ◌<◌, ◌≤◌, Bool, true, false, ◌||◌, T, eqb, leb, List, ◌++◌, length, take, drop, is_ok, Ok, Err, IsUtf8, Result, sym, refl, ap, ◌∙◌, arith, MatchResult}
+use Rattle.std.proofs.Common.{◌≡◌, ℕ, ◌-◌, ◌<◌, ◌≤◌, Bool, true, false, ◌||◌, T, eqb, leb, List, length, take, drop, is_ok, Ok, Err, IsUtf8, Result, sym, refl, ap, ◌∙◌, arith, MatchResult}
 use Rattle.std.proofs.ByRecursion.{IsAscii-from_all, All-weaker}
 use Rattle.std.proofs.lemmas.List.{take_at}
 use Rattle.std.proofs.lemmas.Bool.{cond-true, le-leb}

@@ -1,5 +1,5 @@
 -- What a keyed digest answers and writes where nothing is refused.
-use Rattle.std.proofs.Common.{◌≡◌, ℕ, ◌≤◌, List, ◌++◌, length, drop, Ok, Result, sym, refl, ap, ◌∙◌, arith, le-ltb}
+use Rattle.std.proofs.Common.{◌≡◌, ℕ, ◌≤◌, List, ◌++◌, length, drop, Ok, Result, ap, ◌∙◌, arith, le-ltb}
 use Rattle.std.proofs.lemmas.List.{drop_all, append-nil}
 use Rattle.refusal.specs.declared.Refusal.{Refusal}
 use Rattle.digest.specs.Keyed.{digest_answer, chain_answer, written}

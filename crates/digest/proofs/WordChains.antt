@@ -1,11 +1,11 @@
 -- A chain of HMAC digests on words, and the same on bytes.
-use Rattle.std.proofs.Common.{◌≡◌, ℕ, zero, suc, ◌+◌, ◌-◌, ◌*◌, ◌/◌, ◌%◌, ◌^◌, ◌<◌, ◌≤◌, List, [], ◌∷◌, ◌++◌, map, length, get_or, take, drop, replicate, sym, refl, ap, ◌∙◌, ap₂, mod-lt, zero-lt-suc, arith, pow_pos}
-use lib.Bits.{bit_xor, xor_shr, xor_mod, xor_assoc, xor_zero_r}
+use Rattle.std.proofs.Common.{◌≡◌, ℕ, zero, suc, ◌+◌, ◌*◌, ◌/◌, ◌%◌, ◌^◌, ◌<◌, ◌≤◌, List, [], ◌∷◌, ◌++◌, map, length, get_or, replicate, sym, refl, ap, ◌∙◌, ap₂, mod-lt, arith, pow_pos}
+use lib.Bits.{bit_xor, xor_shr, xor_mod}
 use Rattle.std.specs.List.{range_with_len}
 use Rattle.std.proofs.lemmas.List.{length-append, take_all}
 use Rattle.std.proofs.lemmas.List.FromFn.{fill_by_all}
 use Rattle.digest.specs.Keyed.{xors, last_link, chain_total}
-use Rattle.digest.specs.Sha256.{be32, bytes_of, word_at, words_of, padding, compressed, hashed, sha256}
+use Rattle.digest.specs.Sha256.{bytes_of, word_at, words_of, padding, compressed, hashed, sha256}
 use Rattle.digest.specs.Hmac.{hmac}
 use Rattle.digest.specs.Parts.{finished, key_state, digest_block, next_link}
 use Rattle.digest.proofs.Xors.{xors-assoc, xors-zeros}

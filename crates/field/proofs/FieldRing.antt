@@ -1,5 +1,5 @@
 -- Sums and products in any field with the laws.
-use Rattle.std.proofs.Common.{◌≡◌, Option, sym, refl, ap, ◌∙◌, ap₂}
+use Rattle.std.proofs.Common.{◌≡◌, Option, sym, ap, ◌∙◌, ap₂}
 use Rattle.field.specs.Laws.{Laws}
 
 module _ {F : Type 0} {zeroF one : F} {◌⊕◌ ◌⊗◌ : F → F → F} {inverse : F → Option F} (law : Laws zeroF one ◌⊕◌ ◌⊗◌ inverse) where

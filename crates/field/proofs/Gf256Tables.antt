@@ -1,5 +1,5 @@
 -- Products and inverses in the field of 256 elements by the tables of powers of 3 and of logarithms.
-use Rattle.std.proofs.Common.{◌≡◌, ℕ, zero, suc, ◌+◌, ◌-◌, ◌%◌, ◌<◌, ◌≤◌, Bool, true, false, cond, T, eqb, ltb, List, [], ◌∷◌, get_or, sym, refl, ap, ◌∙◌, subst, ap₂, add-zero, add-suc, mod-lt, arith, lit<, eqb→eq, ltb→lt, ne_eqb}
+use Rattle.std.proofs.Common.{◌≡◌, ℕ, zero, suc, ◌+◌, ◌-◌, ◌%◌, ◌<◌, Bool, true, cond, T, eqb, ltb, get_or, sym, refl, ap, ◌∙◌, subst, ap₂, add-zero, add-suc, mod-lt, arith, lit<, eqb→eq, ltb→lt, ne_eqb}
 use Rattle.field.specs.CarryLess.{times_x, product_by, times_squares}
 use Rattle.field.specs.Gf256.{multiplied, inverted, powers_from, powers, place_of, logarithms_from, logarithms}
 use Rattle.field.specs.CarryLessRing.{product_assoc, product_one}

@@ -1,5 +1,5 @@
 -- Horner's rule gives the value of a polynomial.
-use Rattle.std.proofs.Common.{◌≡◌, ℕ, suc, ◌+◌, ◌<◌, ◌≤◌, List, [], ◌∷◌, ◌++◌, length, get_or, drop, Option, sym, refl, ap, ◌∙◌, ap₂, add-one, arith, drop-cons}
+use Rattle.std.proofs.Common.{◌≡◌, ℕ, ◌+◌, ◌<◌, ◌≤◌, List, [], ◌∷◌, ◌++◌, length, get_or, drop, Option, sym, refl, ap, ◌∙◌, ap₂, add-one, arith, drop-cons}
 use lib.Seq.{drop-length}
 use Rattle.field.specs.Laws.{Laws}
 use Rattle.field.specs.Polynomial.{power, value_at}

@@ -1,11 +1,11 @@
 -- The steps of the interpolation: one quotient more, one point more.
-use Rattle.std.proofs.Common.{◌≡◌, ℕ, suc, ◌+◌, ◌-◌, ◌<◌, ◌≤◌, List, [], ◌∷◌, ◌++◌, map, length, get_or, take, drop, Some, None, Option, sym, refl, ap, ◌∙◌, subst, ap₂, arith, MatchOption}
+use Rattle.std.proofs.Common.{◌≡◌, ℕ, ◌+◌, ◌<◌, ◌≤◌, List, [], ◌∷◌, ◌++◌, length, get_or, take, drop, Some, None, Option, sym, refl, ap, ◌∙◌, subst, ap₂, arith, MatchOption}
 use Rattle.std.specs.List.{AllByRecursion as All}
 use Rattle.std.proofs.ByRecursion.{All-append}
 use Rattle.std.proofs.lemmas.List.{take-append-drop, take_all, take_more, map-append}
 use Rattle.field.specs.Laws.{Laws}
 use Rattle.field.specs.declared.interpolation.point.Point.{Point}
-use Rattle.field.specs.Interpolation.{Distinct, xs_of, value_or, quotients, lagrange_after, lagrange, Interpolated, OnePolynomial}
+use Rattle.field.specs.Interpolation.{Distinct, xs_of, value_or, quotients, lagrange_after, Interpolated, OnePolynomial}
 use Rattle.field.proofs.FieldRing as Ring
 use Rattle.field.proofs.Horner.{next as item-next, finished}
 use Rattle.field.proofs.Lagrange as Lagrange

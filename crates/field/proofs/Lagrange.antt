@@ -1,12 +1,12 @@
 -- Lagrange's sum over points with distinct x is the value of the only polynomial through them.
-use Rattle.std.proofs.Common.{◌≡◌, ℕ, zero, suc, ◌+◌, ◌≤◌, List, [], ◌∷◌, ◌++◌, map, length, Some, None, Option, sym, refl, ap, ◌∙◌, subst, ap₂, le_of_eq, zero-add, arith, length-append}
+use Rattle.std.proofs.Common.{◌≡◌, ℕ, zero, suc, ◌+◌, List, [], ◌∷◌, ◌++◌, length, Option, sym, refl, ap, ◌∙◌, ap₂, le_of_eq, zero-add, arith, length-append}
 use lib.ListN.{length-map}
 use Rattle.std.specs.List.{AllByRecursion as All}
 use Rattle.std.proofs.ByRecursion.{All-append, All-push}
 use Rattle.field.specs.Laws.{Laws}
 use Rattle.field.specs.Polynomial.{value_at}
 use Rattle.field.specs.declared.interpolation.point.Point.{Point}
-use Rattle.field.specs.Interpolation.{Distinct, xs_of, value_or, quotient, quotients, lagrange_after, lagrange, Through, ThePolynomial}
+use Rattle.field.specs.Interpolation.{Distinct, xs_of, value_or, quotients, lagrange_after, Through, ThePolynomial}
 use Rattle.field.proofs.FieldRing as Ring
 use Rattle.field.proofs.Horner as Horner
 use Rattle.field.proofs.Horner.{after}

@@ -1,5 +1,5 @@
 -- Long division by x^3 + g2 x^2 + g1 x + g0 keeps the value at each of its roots.
-use Rattle.std.proofs.Common.{◌≡◌, ℕ, zero, suc, List, [], ◌∷◌, ◌++◌, map, length, Option, sym, refl, ap, ◌∙◌, subst, ap₂}
+use Rattle.std.proofs.Common.{◌≡◌, ℕ, suc, List, [], ◌∷◌, map, length, Option, sym, refl, ap, ◌∙◌, ap₂}
 use Rattle.field.specs.Laws.{Laws}
 use Rattle.field.specs.Polynomial.{add_front, divide_steps}
 use Rattle.field.proofs.FieldRing as Ring

@@ -1,5 +1,5 @@
 -- A polynomial is (x - r)(x - s)(x - t)·q + e exactly when its values at r, s and t are e.
-use Rattle.std.proofs.Common.{◌≡◌, suc, List, [], ◌∷◌, ◌++◌, map, length, Option, sym, refl, ap, ◌∙◌, subst, ap₂}
+use Rattle.std.proofs.Common.{◌≡◌, suc, List, [], ◌∷◌, ◌++◌, map, length, Option, sym, refl, ap, ◌∙◌, ap₂}
 use Rattle.field.specs.Laws.{Laws}
 use Rattle.field.specs.Polynomial.{add_front, times_root, plus_constant}
 use Rattle.field.proofs.FieldRing as Ring

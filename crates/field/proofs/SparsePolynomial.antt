@@ -1,5 +1,5 @@
 -- A polynomial with at most n coefficients other than 0 and the roots a, a^2, .. a^n is 0.
-use Rattle.std.proofs.Common.{◌≡◌, ℕ, zero, suc, ◌+◌, ◌-◌, ◌<◌, ◌≤◌, List, [], ◌∷◌, length, Option, sym, refl, ap, ◌∙◌, subst, ap₂, le_of_eq, not-suc-le-zero, suc-add, zero-add, arith}
+use Rattle.std.proofs.Common.{◌≡◌, ℕ, zero, suc, ◌+◌, ◌-◌, ◌<◌, ◌≤◌, List, [], ◌∷◌, length, Option, sym, refl, ap, ◌∙◌, ap₂, le_of_eq, not-suc-le-zero, suc-add, zero-add, arith}
 use native.Mathlib.Nat.{suc_inj}
 use Rattle.field.specs.Laws.{Laws}
 use Rattle.field.specs.Polynomial.{power}

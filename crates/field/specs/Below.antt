@@ -1,6 +1,6 @@
 -- A test that holds of each number below n, by computing it.
-use Rattle.std.specs.Prelude.{◌≡◌, ℕ, zero, suc, ◌<◌, ◌≤◌, Bool, true, false, T, eqb, ◌⊎◌, refl}
-use Rattle.std.proofs.Common.{subst, sym, inl, inr, not-suc-le-zero, arith, eqb→eq}
+use Rattle.std.specs.Prelude.{◌≡◌, ℕ, zero, suc, ◌<◌, Bool, true, false, T, ◌⊎◌}
+use Rattle.std.proofs.Common.{subst, sym, inl, inr, not-suc-le-zero, arith}
 
 abbrev pub both : Bool → Bool → Bool
 both true b = b

@@ -1,6 +1,6 @@
 -- Polynomials over two values modulo x^d + r obey the laws of a field, where each but 0 has the inverse a^(2^d - 2).
-use Rattle.std.specs.Prelude.{◌≡◌, ℕ, zero, suc, ◌^◌, ◌<◌, Bool, true, false, cond, T, Some, None, Option, ◌==◌, ◌≢◌, bit_xor, nat_eq, refl}
-use Rattle.std.proofs.Common.{sym, ap, ap₂, subst, ◌∙◌, mod-eq_of_lt, lit<, pow_pos, ne_eqb}
+use Rattle.std.specs.Prelude.{◌≡◌, ℕ, zero, suc, ◌^◌, ◌<◌, Bool, true, false, cond, T, Some, None, Option, ◌==◌, ◌≢◌, bit_xor, nat_eq}
+use Rattle.std.proofs.Common.{sym, ap, ap₂, subst, ◌∙◌, pow_pos, ne_eqb}
 use Rattle.std.proofs.Math.Dec.{eqb→eq}
 use Rattle.std.specs.Int.Bits.{xor_assoc, xor_self, xor_zero_r}
 use Rattle.std.proofs.lemmas.Nat.{xor_comm, xor_lt}

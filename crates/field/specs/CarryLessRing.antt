@@ -1,7 +1,7 @@
 -- Polynomials over two values modulo x^d + r are a commutative ring, for every d and r.
 use Rattle.std.specs.Prelude.{◌≡◌, ℕ, zero, suc, ◌+◌, ◌-◌, ◌*◌, ◌/◌, ◌%◌, ◌^◌, ◌<◌, ◌≤◌, bit_xor}
 use Rattle.std.proofs.Math.Path.{refl, sym, ap, ap₂, subst}
-use Rattle.std.proofs.Common.{◌∙◌, add-zero, one-mul, mod-lt, le_of_suc-le-suc, not-suc-le-zero, mod-eq_of_lt, zero-lt-suc, mul_comm, mul-zero, mul-one, le_refl, lt_of_le_of_lt, le_of_eq}
+use Rattle.std.proofs.Common.{◌∙◌, add-zero, one-mul, mod-lt, le_of_suc-le-suc, not-suc-le-zero, mod-eq_of_lt, zero-lt-suc, mul-zero, mul-one, le_refl, lt_of_le_of_lt, le_of_eq}
 use Rattle.std.proofs.Math.Nat.{zero-mul, div-eq_of_lt, pow-suc, div-add-mod'}
 use native.Mathlib.Omega.{arith}
 use Rattle.std.specs.Int.Bits.{xor_assoc, xor_comm, xor_self, xor_zero_r, xor_lt, xor_shifted}

@@ -1,6 +1,6 @@
 -- The field of 256 elements obeys the laws of a field.
-use Rattle.std.specs.Prelude.{◌≡◌, ℕ, ◌^◌, ◌<◌, T, bit_xor, refl}
-use Rattle.std.proofs.Common.{sym, ap, ◌∙◌, mod-eq_of_lt, lit<}
+use Rattle.std.specs.Prelude.{◌≡◌, ℕ, ◌<◌, T, bit_xor}
+use Rattle.std.proofs.Common.{mod-eq_of_lt, lit<}
 use mathlib.Core.HLevel.{is_prop→PathP}
 use Rattle.std.proofs.Math.Bridge.{le_prop}
 use Rattle.field.specs.declared.gf256.Gf256.{Gf256}

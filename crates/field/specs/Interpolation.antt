@@ -1,5 +1,5 @@
 -- Interpolation by Lagrange's formula, in a field where a difference is a sum.
-use Rattle.std.specs.Prelude.{◌≡◌, ℕ, List, [], ◌∷◌, ◌++◌, map, length, Some, None, Option, MatchOption, ◌≢◌}
+use Rattle.std.specs.Prelude.{◌≡◌, List, [], ◌∷◌, ◌++◌, map, length, Some, None, Option, MatchOption, ◌≢◌}
 use Rattle.std.specs.List.{AllByRecursion as All}
 use Rattle.field.specs.declared.interpolation.point.Point.{Point}
 use Rattle.field.specs.Polynomial.{value_at}

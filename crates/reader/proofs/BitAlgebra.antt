@@ -1,11 +1,10 @@
 -- Bits next to each other: how they join to longer ones, and what part of longer ones they are.
-use Rattle.std.proofs.Common.{◌≡◌, ℕ, zero, suc, ◌+◌, ◌-◌, ◌*◌, ◌/◌, ◌%◌, ◌^◌, ◌<◌, ◌≤◌, List, [], ◌∷◌, ◌++◌, length, get_or, take, drop, sym, refl, ap, ◌∙◌, subst, ap₂, append_assoc, lt_of_lt_of_le, not-suc-le-zero, add-zero, add_assoc, mod-lt, mod-eq_of_lt, mul_assoc, mul_comm, add-mul, mul-zero, zero-add, zero-mul, mul-one, mul-suc, mul-add, div-one, arith, length-drop, length-take}
-use lib.Arith.{digits_div, digits_mod, digits_lt}
+use Rattle.std.proofs.Common.{◌≡◌, ℕ, zero, suc, ◌+◌, ◌-◌, ◌*◌, ◌/◌, ◌%◌, ◌^◌, ◌<◌, ◌≤◌, List, ◌++◌, length, get_or, take, drop, sym, refl, ap, ◌∙◌, subst, ap₂, append_assoc, not-suc-le-zero, add-zero, add_assoc, mod-lt, mod-eq_of_lt, mul_assoc, add-mul, zero-add, zero-mul, mul-one, mul-add, div-one, arith, length-drop, length-take}
 use Rattle.std.specs.Int.Digits.{number_from_digits, number_from_digits_after, AllBelowBase}
 use Rattle.std.proofs.lemmas.Nat.{pow_pos, pow-add, shr-shr, mod-pow-add, shr_high, mod_low}
-use Rattle.std.proofs.lemmas.Int.Digits.{number_lt, number_push, number_more}
-use Rattle.std.proofs.ByRecursion.{All-take, All-drop, All-get_or}
-use Rattle.std.proofs.lemmas.List.{take-append-drop, take_more, get_or-drop, drop_more}
+use Rattle.std.proofs.lemmas.Int.Digits.{number_lt}
+use Rattle.std.proofs.ByRecursion.{All-take, All-drop}
+use Rattle.std.proofs.lemmas.List.{take-append-drop, drop_more}
 use Rattle.reader.specs.Bits.{bits_in, bits_at}
 use Rattle.reader.specs.Reading.{bytes_at}
 use Rattle.reader.proofs.BitFields.{power-of, number_append}

@@ -2,9 +2,9 @@
 use Rattle.std.proofs.Common.{◌≡◌, ℕ, zero, suc, ◌+◌, ◌-◌, ◌*◌, ◌/◌, ◌%◌, ◌^◌, ◌<◌, ◌≤◌, List, [], ◌∷◌, ◌++◌, length, get_or, take, drop, sym, refl, ap, ◌∙◌, subst, ap₂, le_of_suc-le-suc, not-suc-le-zero, add-zero, add_assoc, mul_assoc, mul_comm, add-mul, pow-suc, mul-zero, zero-add, zero-mul, mul-one, mul-suc, mul-add, arith, length-drop}
 use native.Mathlib.Nat.{pow-zero, mul-add-div_right, mul-add-mod_self_right}
 use Rattle.std.specs.Int.Digits.{number_from_digits, number_from_digits_after, AllBelowBase}
-use Rattle.std.proofs.lemmas.Nat.{pow-add, pow_pos, shr-shr, shr_high, div-mul-add, mod-mul-add, shl_below, shr_below, mod_low}
+use Rattle.std.proofs.lemmas.Nat.{pow-add, pow_pos, shr-shr, shr_high}
 use Rattle.std.proofs.lemmas.Int.Digits.{number_after_append, number_lt}
-use Rattle.std.proofs.ByRecursion.{All-drop, All-get_or}
+use Rattle.std.proofs.ByRecursion.{All-drop}
 use Rattle.std.proofs.lemmas.List.{take-append-drop, drop_more, get_or-map}
 use Rattle.field.specs.declared.gf1024.Gf1024.{Gf1024}
 use Rattle.reader.specs.Bits.{bits_in, bits_at}

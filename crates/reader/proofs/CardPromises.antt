@@ -1,21 +1,19 @@
 -- What the reader promises of cards, lines and damage.
-use Rattle.std.proofs.Common.{◌≡◌, ℕ, zero, suc, ◌+◌, ◌%◌, ◌<◌, ◌≤◌, Bool, true, false, cond, eqb, leb, List, [], ◌∷◌, ◌++◌, map, length, get_or, Some, None, Ok, Err, Option, Result, sym, refl, ap, ◌∙◌, subst, ap₂, arith}
+use Rattle.std.proofs.Common.{◌≡◌, ℕ, ◌<◌, ◌≤◌, false, eqb, leb, List, [], ◌∷◌, map, length, Some, None, Ok, Err, Option, Result, sym, refl, ap, ◌∙◌, subst, ap₂, arith}
 use Rattle.std.specs.Int.Digits.{AllBelowBase}
 use Rattle.std.proofs.lemmas.List.{length-map}
-use Rattle.std.proofs.lemmas.Bool.{and_parts, leb-true, cases_Bool}
+use Rattle.std.proofs.lemmas.Bool.{and_parts, leb-true}
 use Rattle.refusal.specs.declared.Refusal.{Refusal}
-use Rattle.refusal.specs.declared.Refusal.TheVariants.{NoSuchWord, ForbiddenByte, WordCount, WrongChecksum}
-use Rattle.field.specs.declared.gf1024.Gf1024.{Gf1024}
+use Rattle.refusal.specs.declared.Refusal.TheVariants.{NoSuchWord, WordCount, WrongChecksum}
 use Rattle.field.specs.Gf1024.{element}
-use Rattle.reader.specs.Bits.{bits_at}
 use Rattle.checksum.specs.Values.{values}
 use Rattle.reader.specs.Card.{Fields}
 use Rattle.checksum.specs.Checksum.{is_right, differing, differences}
 use Rattle.lexicon.specs.Lexicon.{index_of}
 use Rattle.lexicon.specs.Lexicon as lexicons
 use Rattle.reader.specs.Line.{Piece, word, remark, first_forbidden, pieces_from}
-use Rattle.reader.specs.Reading.{require, or_refusal, index_at, followed, prefixed, indices_in, count_fits, fields_in, checked_words, card_in, then_card, unless_forbidden, reading}
-use Rattle.reader.specs.Spelling.{Spelled, Damaged, ReadAs, Notices, WritesBack}
+use Rattle.reader.specs.Reading.{or_refusal, index_at, followed, indices_in, count_fits, fields_in, checked_words, card_in, then_card, unless_forbidden, reading}
+use Rattle.reader.specs.Spelling.{Damaged, ReadAs, Notices, WritesBack}
 use Rattle.reader.specs.Writing.{Lawful, words_of, text_of}
 use Rattle.reader.proofs.CardRoundTrip.{words_small, words-say, words_right, written_read, read_written, words-fit, demanded}
 use Rattle.reader.proofs.CheckedFields.{passed, refused}

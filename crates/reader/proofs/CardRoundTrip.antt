@@ -1,16 +1,15 @@
 -- Writing and reading a card's words undo each other.
-use Rattle.std.proofs.Common.{◌≡◌, ℕ, zero, suc, ◌+◌, ◌-◌, ◌*◌, ◌/◌, ◌%◌, ◌^◌, ◌<◌, ◌≤◌, Bool, true, false, cond, not, ◌&&◌, ◌||◌, eqb, ltb, leb, ◌⊎◌, List, [], ◌∷◌, ◌++◌, length, get_or, take, drop, Ok, Err, Result, sym, refl, ap, ◌∙◌, subst, ap₂, inl, inr, append_assoc, mod-eq_of_lt, zero-add, zero-mul, arith, length-drop, length-take}
+use Rattle.std.proofs.Common.{◌≡◌, ℕ, zero, suc, ◌+◌, ◌-◌, ◌*◌, ◌%◌, ◌^◌, ◌<◌, ◌≤◌, Bool, true, false, cond, not, eqb, leb, ◌⊎◌, List, ◌++◌, length, take, drop, Ok, Result, sym, refl, ap, ◌∙◌, subst, ap₂, inl, inr, append_assoc, zero-mul, arith, length-drop, length-take}
 use Rattle.std.specs.Int.Digits.{number_from_digits, AllBelowBase}
 use Rattle.std.proofs.ByRecursion.{All-append, All-take, All-drop, All-from_get_or}
 use Rattle.std.proofs.lemmas.List.{take-append-drop}
-use Rattle.std.proofs.lemmas.Bool.{cases_Bool, cond-true, cond-false, and_parts, leb-true, ltb-true, eqb-true, eqb-false, or_cases, not-true, eq-eqb, cases_eq, true≢false}
+use Rattle.std.proofs.lemmas.Bool.{and_parts, leb-true, ltb-true, eqb-true, eqb-false, or_cases, not-true, eq-eqb, cases_eq}
 use Rattle.refusal.specs.declared.Refusal.{Refusal}
 use Rattle.refusal.specs.declared.Refusal.TheVariants.{WordCount, WrongChecksum, PaddingNotZero, GroupNumbers, MemberAtThresholdOne}
-use Rattle.reader.specs.Bits.{bits_in, bits_at}
-use Rattle.checksum.specs.Values.{values}
+use Rattle.reader.specs.Bits.{bits_at}
 use Rattle.reader.specs.Card.{Fields}
 use Rattle.checksum.specs.Checksum.{customization, check_words_of, is_right}
-use Rattle.reader.specs.Reading.{require, fields_in, bytes_at, value_bits, padding_bits, value_length, count_fits, groups_fit, member_fits, checked_fields, checked_words, card_in}
+use Rattle.reader.specs.Reading.{require, fields_in, padding_bits, value_length, count_fits, groups_fit, member_fits, checked_fields, checked_words, card_in}
 use Rattle.reader.specs.Writing.{Lawful, words_for, header_number, value_words, data_words, words_of}
 use Rattle.reader.proofs.BitAlgebra as B
 use Rattle.reader.proofs.CheckedFields.{passed, all-passed}

@@ -1,5 +1,5 @@
 -- One word more among the words that are kept.
-use Rattle.std.proofs.Common.{◌≡◌, ℕ, ◌+◌, ◌<◌, ◌≤◌, List, [], ◌∷◌, ◌++◌, length, take, set, sym, refl, ap, ◌∙◌, subst, ap₂, arith}
+use Rattle.std.proofs.Common.{◌≡◌, ℕ, ◌+◌, ◌<◌, ◌≤◌, List, [], ◌∷◌, ◌++◌, length, take, set, sym, ap, ◌∙◌, ap₂, arith}
 use Rattle.std.proofs.lemmas.List.{take_more_set, take_all, take-append-le, map_push, length_push, length-map, length-take-le}
 use Rattle.field.specs.declared.gf1024.Gf1024.{Gf1024}
 use Rattle.reader.specs.declared.words.Words.{Words}

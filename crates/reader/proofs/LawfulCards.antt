@@ -1,6 +1,5 @@
 -- A card's fields are in their ranges.
-use Rattle.std.proofs.Common.{◌≡◌, ℕ, ◌%◌, ◌<◌, ◌≤◌, length, get_or, take, sym, refl, ap, ◌∙◌, subst, arith}
-use Rattle.std.specs.Int.Digits.{AllBelowBase}
+use Rattle.std.proofs.Common.{◌≡◌, ◌%◌, ◌<◌, length, take, ap, ◌∙◌, arith}
 use Rattle.std.proofs.ByRecursion.{All-from_get_or, All-take}
 use Rattle.std.proofs.lemmas.List.{length-take-le}
 use Rattle.reader.specs.declared.card.Card.{Card}

@@ -1,11 +1,11 @@
 -- The pieces of a line, one byte after the other, as the state machine sees them.
-use Rattle.std.proofs.Common.{◌≡◌, ℕ, ◌+◌, ◌-◌, ◌<◌, ◌≤◌, List, [], ◌∷◌, ◌++◌, length, get_or, take, drop, sym, refl, ap, ◌∙◌, ap₂, arith, length-drop}
-use Rattle.std.proofs.lemmas.List.{at_drop_more, at_drop_all, take_more, get_or-drop, take_rest, take_all, drop_more}
+use Rattle.std.proofs.Common.{◌≡◌, ℕ, ◌+◌, ◌-◌, ◌<◌, ◌≤◌, List, [], ◌∷◌, ◌++◌, length, get_or, take, drop, sym, ap, ◌∙◌, ap₂, arith, length-drop}
+use Rattle.std.proofs.lemmas.List.{at_drop_more, at_drop_all, take_more, get_or-drop, take_all, drop_more}
 use Rattle.reader.specs.declared.line.State.{State}
 use Rattle.reader.specs.declared.line.State.TheVariants.{Between, InWord, InRemark}
 use Rattle.reader.specs.declared.line.Class.{Class}
 use Rattle.reader.specs.declared.line.Class.TheVariants.{Blank, Hash, Letter, Forbidden}
-use Rattle.reader.specs.Line.{class_of, by_class, Piece, word, remark, Within, between, in_word, pieces, pieces_from}
+use Rattle.reader.specs.Line.{class_of, by_class, Piece, word, remark, between, in_word, pieces, pieces_from}
 
 abbrev pub part : ℕ → ℕ → List ℕ → List ℕ
 part i j line = take (j - i) (drop i line)

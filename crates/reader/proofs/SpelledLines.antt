@@ -1,5 +1,5 @@
 -- A line that spells words is read as those words.
-use Rattle.std.proofs.Common.{◌≡◌, ℕ, zero, suc, ◌+◌, ◌-◌, ◌<◌, ◌≤◌, Bool, true, false, cond, ◌&&◌, ◌||◌, T, eqb, leb, ◌⊎◌, List, [], ◌∷◌, ◌++◌, map, length, get_or, take, Some, None, Ok, Err, Option, Result, sym, refl, ap, ◌∙◌, subst, ap₂, inl, inr, append_assoc, append-nil, le_refl, add-zero, arith}
+use Rattle.std.proofs.Common.{◌≡◌, ℕ, ◌+◌, ◌<◌, ◌≤◌, Bool, true, false, ◌&&◌, T, eqb, leb, List, [], ◌∷◌, ◌++◌, map, length, get_or, take, Some, None, Ok, Err, sym, refl, ap, ◌∙◌, subst, ap₂, inl, inr, append_assoc, append-nil, le_refl, add-zero, arith}
 use Rattle.std.specs.List.{AllByRecursion as All}
 use Rattle.std.specs.Int.Digits.{AllBelowBase}
 use Rattle.std.proofs.ByRecursion.{All-take}
@@ -12,7 +12,7 @@ use Rattle.lexicon.specs.Lexicon.{Lawful, begins_with, index_of}
 use Rattle.reader.specs.Line.{is_blank, is_hash, class_of, by_class, first_forbidden, Piece, Within, between, in_word, pieces, pieces_from}
 use Rattle.lexicon.specs.Letters.{is_letter}
 use Rattle.reader.specs.Line as line
-use Rattle.reader.specs.Reading.{require, or_refusal, index_at, indices_in, followed, card_in, reading, then_card, unless_forbidden}
+use Rattle.reader.specs.Reading.{or_refusal, index_at, indices_in, followed, card_in, reading, then_card, unless_forbidden}
 use Rattle.reader.specs.Spelling.{Ends, Spelled, end, remark, blank, word}
 use Rattle.reader.specs.Writing.{spaced}
 use Rattle.lexicon.specs.Lookup as L

@@ -1,5 +1,5 @@
 -- The text of words, one word after the other.
-use Rattle.std.proofs.Common.{◌≡◌, ℕ, zero, suc, ◌+◌, ◌-◌, ◌<◌, ◌≤◌, List, [], ◌∷◌, ◌++◌, map, length, get_or, take, drop, sym, refl, ap, ◌∙◌, subst, ap₂, append_assoc, append-nil, not-suc-le-zero, add-zero, arith, length-append}
+use Rattle.std.proofs.Common.{◌≡◌, ℕ, zero, suc, ◌+◌, ◌-◌, ◌<◌, ◌≤◌, List, [], ◌∷◌, ◌++◌, map, length, get_or, take, drop, sym, refl, ap, ◌∙◌, ap₂, append_assoc, not-suc-le-zero, add-zero, arith, length-append}
 use Rattle.std.proofs.lemmas.List.{take_more, map_push, take_all, drop-drop, drop_at, take_at, length-take-le}
 use Rattle.reader.specs.Writing.{spaced, spell}
 

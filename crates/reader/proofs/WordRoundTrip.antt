@@ -1,19 +1,17 @@
 -- A card's words say its fields, and no other words do.
-use Rattle.std.proofs.Common.{◌≡◌, ℕ, zero, suc, ◌+◌, ◌-◌, ◌*◌, ◌/◌, ◌%◌, ◌^◌, ◌<◌, ◌≤◌, Bool, true, false, cond, eqb, List, [], ◌∷◌, ◌++◌, map, length, get_or, take, drop, sym, refl, ap, ◌∙◌, subst, ap₂, append_assoc, le_of_eq, lt_of_lt_of_le, not-suc-le-zero, add-zero, mod-lt, mod-eq_of_lt, zero-add, zero-mul, mul-one, div-one, arith, lit<, length-append, length-drop, length-take, pow_mono}
+use Rattle.std.proofs.Common.{◌≡◌, ℕ, zero, suc, ◌+◌, ◌-◌, ◌*◌, ◌/◌, ◌%◌, ◌^◌, ◌<◌, ◌≤◌, Bool, true, false, cond, eqb, List, [], ◌∷◌, ◌++◌, length, get_or, take, drop, sym, refl, ap, ◌∙◌, subst, ap₂, append_assoc, le_of_eq, lt_of_lt_of_le, not-suc-le-zero, mod-lt, mod-eq_of_lt, zero-add, div-one, arith, lit<, length-append, pow_mono}
 use native.Mathlib.Nat.{mod-one, div-eq_of_lt, suc_inj}
 use lib.Arith.{digits_div, digits_mod}
 use Rattle.std.specs.Int.Digits.{number_from_digits, number_from_digits_after, AllBelowBase}
-use Rattle.std.proofs.lemmas.Nat.{pow_pos, pow-add, mod-pow-add, shr-shr, shr_high, mod_low}
+use Rattle.std.proofs.lemmas.Nat.{pow_pos, mod-pow-add, shr-shr, shr_high, mod_low}
 use Rattle.std.proofs.lemmas.Int.Digits.{number_lt}
-use Rattle.std.proofs.ByRecursion.{All-append, All-take, All-drop}
-use Rattle.std.proofs.lemmas.List.{take_at, drop_at, take_all, ext_get_or}
+use Rattle.std.proofs.ByRecursion.{All-append}
+use Rattle.std.proofs.lemmas.List.{take_at, drop_at, ext_get_or}
 use Rattle.std.proofs.lemmas.Bool.{eq-eqb, ne_eqb, and_from, le-leb}
 use Rattle.reader.specs.Bits.{bits_in, bits_at}
-use Rattle.checksum.specs.Values.{values}
 use Rattle.reader.specs.Card.{Fields}
-use Rattle.checksum.specs.Checksum.{customization, check_words_of, is_right}
 use Rattle.reader.specs.Reading.{fields_in, bytes_at, value_bits, padding_bits, value_length, count_fits}
-use Rattle.reader.specs.Writing.{Lawful, words_for, header_number, value_words, data_words, words_of}
+use Rattle.reader.specs.Writing.{Lawful, words_for, header_number, value_words}
 use Rattle.reader.proofs.BitFields.{power-of, number_after_split}
 use Rattle.reader.proofs.BitAlgebra as B
 use Rattle.reader.proofs.CheckedFields.{same_fields}

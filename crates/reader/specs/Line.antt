@@ -1,5 +1,5 @@
 -- A line of text as words and a remark. Space and tab part words, # opens the remark, which takes the rest of the line.
-use Rattle.std.specs.Prelude.{◌≡◌, ℕ, ◌+◌, ◌<◌, ◌≤◌, Bool, cond, ◌||◌, List, [], ◌∷◌, ◌++◌, length, drop, Some, None, Option, ◌==◌}
+use Rattle.std.specs.Prelude.{◌≡◌, ℕ, ◌+◌, ◌<◌, Bool, cond, ◌||◌, List, [], ◌∷◌, ◌++◌, length, drop, Some, None, Option, ◌==◌}
 use Rattle.lexicon.specs.Letters.{is_letter}
 use Rattle.reader.specs.declared.line.Class.{Class}
 use Rattle.reader.specs.declared.line.Class.TheVariants.{Blank, Hash, Letter, Forbidden}

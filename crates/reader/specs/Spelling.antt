@@ -1,5 +1,5 @@
 -- The lines that spell given words, and what is promised of them.
-use Rattle.std.specs.Prelude.{◌≡◌, ℕ, ◌<◌, ◌≤◌, true, T, ◌⊎◌, List, [], ◌∷◌, ◌++◌, length, Ok, Err, Result, slice_index_or}
+use Rattle.std.specs.Prelude.{◌≡◌, ℕ, ◌<◌, ◌≤◌, true, T, ◌⊎◌, List, [], ◌∷◌, ◌++◌, length, Ok, Err, slice_index_or}
 use Rattle.std.specs.Int.Digits.{AllBelowBase}
 use Rattle.refusal.specs.declared.Refusal.TheVariants.{WrongChecksum}
 use Rattle.reader.specs.Bits.{bits_at}
@@ -7,8 +7,8 @@ use Rattle.reader.specs.Card.{Fields}
 use Rattle.checksum.specs.Checksum.{differing}
 use Rattle.lexicon.specs.Lexicon.{begins_with}
 use Rattle.reader.specs.Line.{is_blank, is_hash, pieces_from}
-use Rattle.reader.specs.Reading.{indices_in, card_in, reading}
-use Rattle.reader.specs.Writing.{words_of, text_of}
+use Rattle.reader.specs.Reading.{indices_in, reading}
+use Rattle.reader.specs.Writing.{words_of}
 
 -- a word ends at the end of the line, before a blank or before the remark
 abbrev pub Ends : List ℕ → Type 0

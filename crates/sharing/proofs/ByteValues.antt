@@ -1,13 +1,12 @@
 -- The byte that the interpolation at one byte position gives.
-use Rattle.std.proofs.Common.{◌≡◌, ℕ, zero, suc, ◌+◌, ◌*◌, ◌<◌, ◌≤◌, Bool, true, false, List, [], ◌∷◌, map, length, get_or, is_some, Some, None, Option, sym, refl, ap, ◌∙◌, subst, ap₂, le_of_eq, mul-le-mul_right, suc-mul, arith, w8, Fits}
+use Rattle.std.proofs.Common.{◌≡◌, ℕ, suc, ◌+◌, ◌*◌, ◌<◌, ◌≤◌, true, List, [], ◌∷◌, length, get_or, is_some, Some, None, Option, sym, ap, ◌∙◌, subst, ap₂, le_of_eq, mul-le-mul_right, suc-mul, arith, w8, Fits}
 use Rattle.std.specs.List.{AllByRecursion as All}
-use Rattle.std.proofs.ByRecursion.{All-from_get_or}
 use Rattle.field.specs.declared.gf256.Gf256.{Gf256}
 use Rattle.field.specs.declared.interpolation.point.Point.{Point}
 use Rattle.field.specs.Gf256.{element, sum, product, inverse}
 use Rattle.field.specs.Interpolation.{Distinct, xs_of, lagrange, Interpolated}
 use Rattle.digest.specs.Keyed.{Bytes}
-use Rattle.sharing.specs.Curves.{Share, Shares}
+use Rattle.sharing.specs.Curves.{Shares}
 use Rattle.sharing.specs.Values.{shares_of, points_at, byte_through, Sound}
 use Rattle.sharing.proofs.PositionPolynomials as Positions
 use Rattle.sharing.proofs.FlatShares.{sound_shares, by_value}

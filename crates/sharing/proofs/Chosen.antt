@@ -1,11 +1,10 @@
 -- The shares that fix a dealt curve, as they stand in an area.
-use Rattle.std.proofs.Common.{◌≡◌, ℕ, zero, suc, ◌+◌, ◌-◌, ◌*◌, ◌<◌, ◌≤◌, min, true, false, cond, leb, List, [], ◌∷◌, ◌++◌, length, take, drop, set, sym, refl, ap, ◌∙◌, subst, ap₂, le_of_eq, le_refl, add-zero, suc-mul, add_comm, zero-mul, arith, length-append, length-drop, length-set, length-take}
+use Rattle.std.proofs.Common.{◌≡◌, ℕ, zero, suc, ◌+◌, ◌-◌, ◌*◌, ◌<◌, ◌≤◌, true, false, cond, leb, List, [], ◌∷◌, ◌++◌, length, take, drop, set, sym, refl, ap, ◌∙◌, subst, ap₂, le_of_eq, le_refl, add-zero, suc-mul, zero-mul, arith, length-append, length-drop, length-set, length-take}
 use Rattle.std.specs.List.{range_with_len}
 use Rattle.std.proofs.lemmas.List.{take_more_set, take_all, take_at, take-append-le, drop_at, drop-append-le, append_assoc}
 use Rattle.std.proofs.lemmas.Bool.Decides.{nat_tests}
 use Rattle.std.proofs.lemmas.List.FromFn.{length-range_with_len}
 use Rattle.field.specs.Interpolation.{Distinct}
-use Rattle.sharing.specs.Curves.{Share}
 use Rattle.sharing.specs.Values.{shares_of, value_through, Sound, chosen_places, chosen_shares, dealt_value, Choosable}
 use Rattle.sharing.proofs.FlatShares as Flat
 use Rattle.sharing.proofs.CurveTheorems.{distinct_ends, distinct_counting, all-counting-low}

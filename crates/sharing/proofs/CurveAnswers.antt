@@ -1,10 +1,9 @@
 -- The answers whether shares lie on a curve.
-use Rattle.std.proofs.Common.{◌≡◌, ℕ, zero, suc, ◌+◌, ◌-◌, ◌*◌, ◌<◌, ◌≤◌, min, Bool, true, false, List, [], ◌∷◌, ◌++◌, length, take, drop, Decides, MatchBool, sym, refl, ap, ◌∙◌, subst, ap₂, mul-le-mul_right, suc-mul, add-mul, add_comm, zero-mul, arith, length-drop, length-take}
+use Rattle.std.proofs.Common.{◌≡◌, ℕ, zero, suc, ◌+◌, ◌-◌, ◌*◌, ◌<◌, ◌≤◌, Bool, true, false, List, [], ◌∷◌, length, take, drop, Decides, sym, refl, ap, ◌∙◌, subst, ap₂, mul-le-mul_right, suc-mul, add-mul, add_comm, zero-mul, arith, length-drop, length-take}
 use Rattle.std.specs.List.{AllByRecursion as All}
 use Rattle.std.proofs.lemmas.List.{drop-drop, take-take, drop-take}
 use Rattle.field.specs.Interpolation.{Distinct}
-use Rattle.digest.specs.Keyed.{Bytes}
-use Rattle.sharing.specs.Curves.{Share, Shares, On, OnCurve, CurveLaws}
+use Rattle.sharing.specs.Curves.{Share, Shares, On, OnCurve}
 use Rattle.sharing.specs.Values.{shares_of, value_through, Sound, Checked, FixedAnswer, SecretAnswer}
 use Rattle.sharing.proofs.FlatShares as Flat
 use Rattle.sharing.proofs.CurveTheorems as Theorems

@@ -1,6 +1,5 @@
 -- What shares say of the curves through them.
-use Rattle.std.proofs.Common.{◌≡◌, ℕ, zero, suc, ◌+◌, ◌-◌, ◌*◌, ◌<◌, ◌≤◌, min, Bool, true, false, cond, leb, ◌⊎◌, List, [], ◌∷◌, ◌++◌, map, length, take, drop, replicate, sym, refl, ap, ◌∙◌, subst, ap₂, inl, inr, le_of_eq, arith, lit<, lit≤, length-append, length-drop, length-take}
-use native.Mathlib.Nat.{suc_inj}
+use Rattle.std.proofs.Common.{◌≡◌, ℕ, zero, suc, ◌+◌, ◌-◌, ◌*◌, ◌<◌, ◌≤◌, min, Bool, true, false, cond, leb, ◌⊎◌, List, [], ◌∷◌, ◌++◌, map, length, take, drop, replicate, sym, refl, ap, ◌∙◌, subst, ap₂, inl, inr, le_of_eq, arith, lit<, length-append, length-drop, length-take}
 use lib.ListN.{length-map, length-replicate}
 use Rattle.std.specs.List.{range_with_len, AllByRecursion as All}
 use Rattle.std.proofs.ByRecursion.{All-map, All-weaker, All-append, All-take, All-drop}
@@ -11,7 +10,7 @@ use Rattle.std.proofs.lemmas.Bool.Decides.{nat_tests}
 use Rattle.field.specs.Interpolation.{Distinct}
 use Rattle.digest.specs.Keyed.{Bytes}
 use Rattle.sharing.specs.Curves.{Polynomials, Curve, Share, Shares, On, OnCurve, OneCurve, OneCurveOfSecret, SomeCurve, CurveLaws}
-use Rattle.sharing.specs.Values.{shares_of, value_through, Checked, drawn_length, chosen_shares, dealt_value, DealtCurve}
+use Rattle.sharing.specs.Values.{shares_of, value_through, Checked, chosen_shares, dealt_value, DealtCurve}
 use Rattle.sharing.proofs.PositionPolynomials as Positions
 use Rattle.sharing.proofs.FlatShares as Flat
 

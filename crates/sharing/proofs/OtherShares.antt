@@ -1,8 +1,8 @@
 -- Shares that are tried one by one against given values.
-use Rattle.std.proofs.Common.{◌≡◌, ℕ, zero, suc, ◌+◌, ◌-◌, ◌*◌, ◌<◌, ◌≤◌, min, Bool, true, false, List, [], ◌∷◌, length, get_or, take, drop, Decides, sym, refl, ap, ◌∙◌, subst, ap₂, mul-le-mul_right, suc-mul, add_comm, zero-mul, add-one, arith, length-drop, length-take}
+use Rattle.std.proofs.Common.{◌≡◌, ℕ, zero, suc, ◌+◌, ◌-◌, ◌*◌, ◌<◌, ◌≤◌, Bool, true, false, List, [], ◌∷◌, length, get_or, take, drop, Decides, sym, refl, ap, ◌∙◌, subst, mul-le-mul_right, suc-mul, add_comm, zero-mul, add-one, arith, length-drop, length-take}
 use Rattle.std.proofs.lemmas.List.{drop-drop, drop_more, drop_all}
 use Rattle.sharing.specs.Curves.{Share, On}
-use Rattle.sharing.specs.Values.{shares_of, value_through, Sound}
+use Rattle.sharing.specs.Values.{shares_of, value_through}
 
 module _ (n : ℕ) (f : ℕ → List ℕ) where
   share_on : (xs values : List ℕ) (i : ℕ) → i < length xs → On f (shares_of n xs values) → f (get_or xs i 0) ≡ take n (drop (i * n) values)

@@ -1,16 +1,15 @@
 -- Values whose bytes are those of polynomials, one for each byte position.
-use Rattle.std.proofs.Common.{◌≡◌, ℕ, zero, suc, ◌+◌, ◌-◌, ◌%◌, ◌<◌, ◌≤◌, List, [], ◌∷◌, ◌++◌, map, length, get_or, replicate, Option, sym, refl, ap, ◌∙◌, subst, ap₂, mod-eq_of_lt, arith, length-append}
+use Rattle.std.proofs.Common.{◌≡◌, ℕ, zero, suc, ◌+◌, ◌-◌, ◌%◌, ◌<◌, ◌≤◌, List, [], ◌∷◌, map, length, get_or, sym, refl, ap, ◌∙◌, subst, ap₂, arith}
 use native.Mathlib.Nat.{suc_inj}
-use lib.ListN.{length-map, length-replicate}
+use lib.ListN.{length-map}
 use Rattle.std.specs.List.{range_with_len, AllByRecursion as All}
-use Rattle.std.proofs.ByRecursion.{All-map, All-weaker, All-get_or}
+use Rattle.std.proofs.ByRecursion.{All-map, All-weaker}
 use Rattle.std.proofs.lemmas.List.FromFn.{length-range_with_len, fill_by_all}
 use Rattle.field.specs.declared.gf256.Gf256.{Gf256}
-use Rattle.field.specs.declared.interpolation.point.Point.{Point}
 use Rattle.field.specs.Gf256.{element, sum, product, inverse}
 use Rattle.field.specs.Polynomial.{value_at, power}
-use Rattle.field.specs.Interpolation.{Distinct, xs_of, lagrange, ThePolynomial}
-use Rattle.field.specs.Gf256Laws.{laws, same, element-value, value-element}
+use Rattle.field.specs.Interpolation.{Distinct, xs_of, ThePolynomial}
+use Rattle.field.specs.Gf256Laws.{laws, same, value-element}
 use Rattle.field.proofs.FieldRing as Ring
 use Rattle.field.proofs.PolynomialUnique as Unique
 use Rattle.field.proofs.Lagrange as Lagrange

@@ -1,5 +1,5 @@
 -- Curves: how a secret is shared out over the values at the places 0 to 255, and what some of the values say of it.
-use Rattle.std.specs.Prelude.{◌≡◌, ℕ, ◌+◌, ◌-◌, ◌<◌, ◌≤◌, List, [], ◌∷◌, ◌++◌, map, length, take, ◌≢◌}
+use Rattle.std.specs.Prelude.{◌≡◌, ℕ, ◌+◌, ◌-◌, ◌<◌, ◌≤◌, List, ◌++◌, map, length, take, ◌≢◌}
 use Rattle.std.specs.List.{AllByRecursion as All}
 use Rattle.field.specs.declared.gf256.Gf256.{Gf256}
 use Rattle.field.specs.Gf256.{element, sum, product}

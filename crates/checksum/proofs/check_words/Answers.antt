@@ -1,5 +1,5 @@
 -- The answer of `check_words`.
-use Rattle.std.proofs.Common.{◌≡◌, true, List, [], ◌∷◌, ◌++◌, sym, ap, ◌∙◌, subst, ap₂, append_assoc}
+use Rattle.std.proofs.Common.{◌≡◌, true, List, [], ◌∷◌, ◌++◌, sym, ap, ◌∙◌, subst, append_assoc}
 use Rattle.field.specs.declared.gf1024.Gf1024.{Gf1024}
 use Rattle.field.specs.Gf1024.{element, sum}
 use Rattle.checksum.specs.Values.{values}

@@ -1,11 +1,10 @@
 -- The loop of `is_one_at`, and its answer.
-use Rattle.std.proofs.Common.{◌≡◌, ℕ, ◌+◌, eqb, List, [], ◌∷◌, map, get_or, drop, sym, refl, ap, ◌∙◌}
-use Rattle.field.specs.declared.gf1024.Gf1024.{Gf1024}
+use Rattle.std.proofs.Common.{◌≡◌, ◌+◌, eqb, map, get_or, drop, sym, refl, ap, ◌∙◌}
 use Rattle.field.specs.Gf1024.{element, sum, product}
 use Rattle.field.specs.Gf1024Laws.{laws, element-value}
 use Rattle.field.proofs.Horner.{after-value, finished}
 use Rattle.checksum.specs.Values.{values}
-use Rattle.checksum.specs.Checksum.{customization, coefficients}
+use Rattle.checksum.specs.Checksum.{coefficients}
 use Rattle.checksum.proofs.ChecksumPolynomial.{at, val, val-words, front, elements-values, next_number, one_more}
 use Rattle.checksum.proofs.is_one_at.Goals as goal
 

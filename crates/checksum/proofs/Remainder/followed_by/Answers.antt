@@ -1,6 +1,5 @@
 -- One step of the division.
-use Rattle.std.proofs.Common.{◌≡◌, List, [], ◌∷◌, sym, ap, ◌∙◌, ap₂}
-use Rattle.field.specs.declared.gf1024.Gf1024.{Gf1024}
+use Rattle.std.proofs.Common.{◌≡◌, [], ◌∷◌, sym, ap, ◌∙◌, ap₂}
 use Rattle.field.specs.Gf1024.{element, sum, product}
 use Rattle.field.specs.Gf1024Laws.{same}
 use Rattle.checksum.proofs.ChecksumRemainder.{remainder-divided}

@@ -1,5 +1,5 @@
 -- The loop of `followed_by_all`.
-use Rattle.std.proofs.Common.{◌≡◌, ◌+◌, drop, sym, ap, ◌∙◌}
+use Rattle.std.proofs.Common.{◌+◌, drop, sym, ap, ◌∙◌}
 use Rattle.field.proofs.Horner.{next, finished}
 use Rattle.checksum.proofs.ChecksumRemainder.{divided, remainder-divided}
 use Rattle.checksum.proofs.ChecksumWords.{one-step}

@@ -1,5 +1,5 @@
 -- The text fits the space, and its bytes are plain.
-use Rattle.std.proofs.Common.{◌≡◌, ◌≤◌, length, is_ok, sym, ap, ◌∙◌, subst, arith}
+use Rattle.std.proofs.Common.{is_ok, sym, ap, ◌∙◌, subst, arith}
 use Rattle.reader.specs.Card.{fields_of}
 use Rattle.reader.specs.Writing.{Plain, text_of}
 use Rattle.commands.proofs.CardTexts.{fits-space, written}

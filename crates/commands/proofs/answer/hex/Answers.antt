@@ -1,5 +1,5 @@
 -- One byte more.
-use Rattle.std.proofs.Common.{append_assoc, append-nil, arith, rules}
+use Rattle.std.proofs.Common.{append_assoc, append-nil, rules}
 use Rattle.std.proofs.lemmas.List.{at_drop_more, at_drop_all}
 use Rattle.commands.specs.Answers.{hex_of}
 use Rattle.commands.proofs.answer.hex.Goals as goal

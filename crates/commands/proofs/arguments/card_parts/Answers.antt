@@ -1,5 +1,5 @@
 -- Each argument in turn.
-use Rattle.std.proofs.Common.{◌≡◌, cond, eqb, length, Some, None, sym, ap, ◌∙◌, arith}
+use Rattle.std.proofs.Common.{◌≡◌, cond, eqb, length, Some, None, ap, ◌∙◌, arith}
 use Rattle.std.proofs.lemmas.Bool.{ne_eqb}
 use Rattle.std.specs.Option.{option_map}
 use Rattle.reader.specs.Card.{parts_of}

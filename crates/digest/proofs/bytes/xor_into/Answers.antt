@@ -1,5 +1,5 @@
 -- One byte more, and the end.
-use Rattle.std.proofs.Common.{◌≡◌, sym, ◌∙◌, arith}
+use Rattle.std.proofs.Common.{sym, ◌∙◌, arith}
 use Rattle.digest.proofs.Xors.{xors-more, xors-all}
 use Rattle.digest.proofs.bytes.xor_into.Goals as goal
 

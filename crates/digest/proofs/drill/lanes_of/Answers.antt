@@ -1,5 +1,5 @@
 -- One byte more, from the key to the message, and the end.
-use Rattle.std.proofs.Common.{◌≡◌, ℕ, ◌+◌, List, ◌++◌, length, drop, sym, refl, ap, ◌∙◌, ap₂, add_assoc, arith}
+use Rattle.std.proofs.Common.{◌≡◌, ℕ, ◌+◌, List, ◌++◌, length, sym, refl, ◌∙◌, ap₂, add_assoc, arith}
 use Rattle.std.proofs.lemmas.List.{length-set}
 use Rattle.digest.specs.Lanes.{none, mixed, mixed-more, mixed-all, mixed-append, mixed-lanes}
 use Rattle.digest.proofs.drill.lanes_of.Goals as goal

@@ -1,5 +1,5 @@
 -- The bytes below i are combined with the mask.
-use Rattle.std.proofs.Common.{◌≡◌, ◌++◌, map, length, take}
+use Rattle.std.proofs.Common.{◌≡◌, map, length, take}
 use lib.Bits.{bit_xor}
 use Rattle.digest.proofs.hmac.masked.Given as goal
 

@@ -1,5 +1,5 @@
 -- The digest from the initial hash value.
-use Rattle.std.proofs.Common.{◌≡◌, ◌∙◌}
+use Rattle.std.proofs.Common.{◌∙◌}
 use Rattle.digest.specs.Padding.{sha256-is}
 use Rattle.digest.proofs.sha256.sha256_of.Goals as goal
 

@@ -1,5 +1,5 @@
 -- The loop of `evaluate`.
-use Rattle.std.proofs.Common.{◌≡◌, ◌+◌, drop, sym, refl, ap, ◌∙◌}
+use Rattle.std.proofs.Common.{◌+◌, drop, sym, ap, ◌∙◌}
 use Rattle.field.proofs.Horner.{after, after-step, after-value, next, finished}
 use Rattle.field.proofs.polynomial.evaluate.Goals as goal
 

@@ -1,6 +1,5 @@
 -- Four digits write one number, and a byte that is no digit stands in none.
-use Rattle.std.proofs.Common.{◌≡◌, ℕ, ◌+◌, ◌*◌, ◌/◌, ◌%◌, ◌<◌, [], ◌∷◌, length, get_or, ap, ◌∙◌, arith}
-use Rattle.lexicon.specs.NumberWords.{digits}
+use Rattle.std.proofs.Common.{◌/◌, ◌%◌, get_or, ap, arith}
 use Rattle.lexicon.specs.NumberWordsLemmas.{four-digits}
 use Rattle.lexicon.proofs.number_lexicon.decimal.Goals as goal
 

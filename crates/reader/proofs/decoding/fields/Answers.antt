@@ -1,7 +1,6 @@
 -- Field by field.
-use Rattle.std.proofs.Common.{◌≡◌, ℕ, ◌+◌, eqb, length, sym, refl, ap, ◌∙◌, ap₂}
+use Rattle.std.proofs.Common.{◌≡◌, ◌+◌, eqb, length, sym, ap, ◌∙◌}
 use Rattle.std.proofs.lemmas.List.{length-map}
-use Rattle.reader.specs.Bits.{bits_at}
 use Rattle.checksum.specs.Values.{values}
 use Rattle.reader.specs.Reading.{fields_in, bytes_at, padding_bits, value_length, checked_fields}
 use Rattle.reader.proofs.CheckedFields.{same_fields}

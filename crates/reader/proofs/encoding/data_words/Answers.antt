@@ -1,10 +1,10 @@
 -- One word of the value more, and all of them.
-use Rattle.std.proofs.Common.{◌≡◌, ℕ, ◌+◌, ◌-◌, ◌*◌, ◌/◌, ◌%◌, ◌^◌, ◌<◌, ◌≤◌, List, [], ◌∷◌, ◌++◌, length, get_or, take, sym, refl, ap, ◌∙◌, subst, ap₂, append_assoc, append-nil, arith}
+use Rattle.std.proofs.Common.{◌≡◌, ◌+◌, ◌*◌, ◌/◌, ◌≤◌, [], ◌∷◌, ◌++◌, length, get_or, take, sym, ap, ◌∙◌, subst, append_assoc, append-nil, arith}
 use Rattle.std.specs.Int.Digits.{number_from_digits as number}
 use Rattle.std.proofs.lemmas.List.{take_more, take_all}
 use Rattle.reader.specs.Card.{fields_of}
 use Rattle.reader.specs.Words.{Holds}
-use Rattle.reader.specs.Writing.{words_for, header_number, value_words, data_words}
+use Rattle.reader.specs.Writing.{words_for, header_number, value_words}
 use Rattle.reader.proofs.WordRoundTrip.{length-words_for, words_for-at}
 use Rattle.reader.proofs.encoding.data_words.Goals as goal
 

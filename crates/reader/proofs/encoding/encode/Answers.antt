@@ -1,12 +1,12 @@
 -- The check words after the others.
-use Rattle.std.proofs.Common.{◌≡◌, ℕ, ◌+◌, ◌-◌, ◌<◌, ◌≤◌, List, [], ◌∷◌, ◌++◌, length, get_or, take, sym, refl, ap, ◌∙◌, subst, ap₂, append_assoc, arith}
+use Rattle.std.proofs.Common.{◌≡◌, ℕ, ◌-◌, List, [], ◌∷◌, ◌++◌, length, get_or, take, sym, ap, ◌∙◌, subst, ap₂, append_assoc, arith}
 use Rattle.std.proofs.lemmas.List.{take_all, length-map}
 use Rattle.field.specs.declared.gf1024.Gf1024.{Gf1024}
 use Rattle.checksum.specs.Values.{values}
 use Rattle.reader.specs.Card.{fields_of}
 use Rattle.checksum.specs.Checksum.{customization, check_words_of}
 use Rattle.reader.specs.Words.{Holds}
-use Rattle.reader.specs.Writing.{data_words, words_of}
+use Rattle.reader.specs.Writing.{data_words}
 use Rattle.reader.proofs.CardRoundTrip.{data_small}
 use Rattle.checksum.proofs.CheckWords.{three-checks}
 use Rattle.reader.proofs.encoding.encode.Goals as goal

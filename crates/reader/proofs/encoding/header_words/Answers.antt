@@ -1,5 +1,5 @@
 -- The four words of the header, one after the other.
-use Rattle.std.proofs.Common.{◌≡◌, ℕ, ◌/◌, ◌%◌, ◌^◌, List, [], ◌∷◌, ◌++◌, sym, refl, ap, ◌∙◌, subst, ap₂}
+use Rattle.std.proofs.Common.{◌≡◌, ◌/◌, ◌%◌, ◌^◌, [], ◌∷◌, ap, ◌∙◌, subst, ap₂}
 use Rattle.reader.specs.Card.{fields_of}
 use Rattle.reader.specs.Words.{Holds}
 use Rattle.reader.specs.Writing.{words_for, header_number}

@@ -1,4 +1,3 @@
-use Rattle.reader.specs.Promises.{Promises}
 use Rattle.reader.proofs.CardPromises.{text_read, read_as, notices, read_back}
 use Rattle.reader.proofs.promises.promises.Goals as goal
 

@@ -1,5 +1,5 @@
 -- What is promised of a line that is read.
-use Rattle.std.proofs.Common.{◌≡◌, sym, ◌∙◌}
+use Rattle.std.proofs.Common.{sym, ◌∙◌}
 use Rattle.reader.proofs.CardPromises.{read_back, read_as, notices}
 use Rattle.reader.proofs.reading.read_card.Goals as goal
 

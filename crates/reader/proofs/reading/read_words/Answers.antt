@@ -1,11 +1,11 @@
 -- One word more, a word that counts for nothing, and the end of the words.
-use Rattle.std.proofs.Common.{◌≡◌, ℕ, ◌+◌, List, [], ◌∷◌, ◌++◌, length, Ok, Err, sym, refl, ap, ◌∙◌, subst, arith, Bor, rules}
+use Rattle.std.proofs.Common.{◌≡◌, ℕ, ◌+◌, List, [], ◌∷◌, ◌++◌, length, Ok, sym, refl, ap, ◌∙◌, subst, arith, Bor}
 use Rattle.std.proofs.lemmas.List.{length_push}
 use Rattle.reader.specs.declared.line.Token.{Token}
 use Rattle.reader.specs.declared.line.Token.TheVariants.{Word, Remark, End}
 use Rattle.reader.specs.Line.{word, pieces_from, Gives}
 use Rattle.reader.specs.Reading.{indices_in, prefixed}
-use Rattle.reader.proofs.IndicesOfPieces.{prefixed-none, one_more, unknown, at-remark, at-end}
+use Rattle.reader.proofs.IndicesOfPieces.{prefixed-none, one_more, at-remark, at-end}
 use Rattle.reader.proofs.reading.read_words.Goals as goal
 
 pub loop-offset-init : goal.loop-offset-init

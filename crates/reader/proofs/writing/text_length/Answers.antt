@@ -1,7 +1,6 @@
 -- One word more.
-use Rattle.std.proofs.Common.{◌≡◌, ℕ, ◌+◌, ◌*◌, ◌<◌, ◌≤◌, length, get_or, take, sym, refl, ap, ◌∙◌, ap₂, arith}
+use Rattle.std.proofs.Common.{length, sym, ap, ◌∙◌, arith}
 use Rattle.reader.specs.Words.{kept}
-use Rattle.reader.specs.Writing.{spell}
 use Rattle.reader.proofs.KeptWords.{kept-length}
 use Rattle.reader.proofs.TextOfWords.{spell_one, more-length, whole}
 use Rattle.reader.proofs.writing.text_length.Goals as goal

@@ -1,5 +1,5 @@
 -- The card's words, and their text.
-use Rattle.std.proofs.Common.{◌≡◌, ℕ, ◌+◌, ◌<◌, ◌≤◌, true, false, leb, List, ◌++◌, length, take, drop, Ok, Err, sym, refl, ap, ◌∙◌, subst, ap₂, arith}
+use Rattle.std.proofs.Common.{◌≡◌, ◌≤◌, leb, ◌++◌, length, take, drop, Ok, Err, sym, refl, ap, ◌∙◌, ap₂, arith}
 use Rattle.std.proofs.lemmas.List.{take_all}
 use Rattle.std.proofs.lemmas.Bool.{and_parts, leb-true, le-leb, lt-leb, cond-true, cond-false}
 use Rattle.refusal.specs.declared.layers.Layer.TheVariants as layer
@@ -8,7 +8,6 @@ use Rattle.reader.specs.declared.card.Card.{Card}
 use Rattle.reader.specs.declared.words.Words.{Words}
 use Rattle.checksum.specs.Values.{values}
 use Rattle.reader.specs.Card.{fields_of}
-use Rattle.reader.specs.Reading.{count_fits}
 use Rattle.reader.specs.Words.{kept, Holds}
 use Rattle.reader.specs.Writing.{words_of, spell, text_of}
 use Rattle.reader.proofs.CardRoundTrip.{words-fit}

@@ -1,5 +1,5 @@
 -- A space and one word more.
-use Rattle.std.proofs.Common.{◌≡◌, ℕ, suc, ◌+◌, ◌-◌, ◌<◌, ◌≤◌, List, [], ◌∷◌, ◌++◌, length, get_or, take, drop, sym, refl, ap, ◌∙◌, subst, ap₂, arith, length-append}
+use Rattle.std.proofs.Common.{◌≡◌, suc, ◌+◌, ◌≤◌, [], ◌∷◌, ◌++◌, length, get_or, take, drop, sym, ap, ◌∙◌, ap₂, arith, length-append}
 use Rattle.reader.specs.Words.{kept}
 use Rattle.reader.specs.Writing.{spell}
 use Rattle.reader.proofs.KeptWords.{kept-length}

@@ -1,5 +1,5 @@
 -- The rest of the value is the key.
-use Rattle.std.proofs.Common.{◌≡◌, length, take, drop, Decides, sym, refl, ap, ◌∙◌, subst}
+use Rattle.std.proofs.Common.{◌≡◌, take, drop, Decides, ap, ◌∙◌, subst}
 use Rattle.std.proofs.lemmas.List.{take_rest}
 use Rattle.sharing.proofs.checks.digest_fits.Goals as goal
 

@@ -1,6 +1,6 @@
 -- Each way out of `curve_secret`.
-use Rattle.std.proofs.Common.{◌≡◌, ℕ, ◌*◌, ◌<◌, ◌≤◌, Bool, true, false, ◌⊎◌, List, length, take, drop, sym, refl, ap, ◌∙◌, subst, ap₂, inl, inr, arith}
-use Rattle.sharing.specs.Values.{Sound, shares_of}
+use Rattle.std.proofs.Common.{◌≡◌, ℕ, ◌*◌, ◌<◌, ◌≤◌, Bool, true, false, length, take, drop, sym, ap, ◌∙◌, subst, inl, inr, arith}
+use Rattle.sharing.specs.Values.{Sound}
 use Rattle.sharing.proofs.ByteValues.{bytes-typed, shares-sound}
 use Rattle.sharing.proofs.CurveAnswers.{first_within, sound_first, others_filled, few-others, not_sound, too_few, secret_answer}
 use Rattle.sharing.proofs.DigestLaws as Laws

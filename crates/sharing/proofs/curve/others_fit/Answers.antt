@@ -1,5 +1,5 @@
 -- The loop of `others_fit`.
-use Rattle.std.proofs.Common.{◌≡◌, ℕ, ◌+◌, ◌-◌, ◌*◌, ◌≤◌, List, [], length, get_or, take, drop, sym, subst, rules}
+use Rattle.std.proofs.Common.{ℕ, ◌+◌, ◌-◌, ◌*◌, ◌≤◌, List, [], length, get_or, take, drop, sym, subst, rules}
 use Rattle.sharing.specs.Curves.{Share}
 use Rattle.sharing.specs.Values.{Sound, shares_of, value_through}
 use Rattle.sharing.proofs.OtherShares.{fits_in, part_length, not_on, on_more, on_all, at_length}

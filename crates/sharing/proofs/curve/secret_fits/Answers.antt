@@ -1,6 +1,6 @@
 -- Each way out of `secret_fits`.
-use Rattle.std.proofs.Common.{◌≡◌, ℕ, ◌≤◌, Bool, true, false, length, take, drop, Decides, sym, refl, ap, ◌∙◌, subst, ap₂, arith}
-use Rattle.sharing.specs.Values.{Checked, shares_of, value_through}
+use Rattle.std.proofs.Common.{◌≡◌, ◌≤◌, length, take, drop, Decides, ap, ◌∙◌, subst, arith}
+use Rattle.sharing.specs.Values.{shares_of, value_through}
 use Rattle.sharing.proofs.curve.secret_fits.Goals as goal
 
 pub returns : goal.returns

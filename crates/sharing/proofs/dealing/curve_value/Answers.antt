@@ -1,5 +1,5 @@
 -- Each way out of `curve_value`.
-use Rattle.std.proofs.Common.{◌≡◌, ℕ, ◌≤◌, Bool, true, false, sym, refl, subst, arith}
+use Rattle.std.proofs.Common.{◌≡◌, ℕ, Bool, true, false, sym, refl, subst, arith}
 use Rattle.sharing.specs.Values.{Dealable}
 use Rattle.sharing.proofs.Chosen.{dealt_one, dealt_more}
 use Rattle.sharing.proofs.DigestLaws as Laws

@@ -1,5 +1,5 @@
 -- The four parts.
-use Rattle.std.proofs.Common.{◌≡◌, ℕ, ◌+◌, ◌-◌, ◌*◌, ◌≤◌, min, List, ◌++◌, length, take, drop, sym, refl, ap, ◌∙◌, subst, ap₂, arith, length-drop, length-take}
+use Rattle.std.proofs.Common.{◌≡◌, ◌+◌, ◌-◌, ◌*◌, ◌≤◌, ◌++◌, length, take, drop, refl, ap, ◌∙◌, ap₂, arith, length-take}
 use Rattle.sharing.proofs.Chosen.{all-parts, whole_length}
 use Rattle.sharing.proofs.DigestLaws as Laws
 use Rattle.sharing.proofs.dealing.fill_chosen.Goals as goal

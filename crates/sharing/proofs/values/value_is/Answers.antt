@@ -1,8 +1,7 @@
 -- The loop of `value_is`.
-use Rattle.std.proofs.Common.{◌≡◌, ℕ, ◌+◌, ◌<◌, ◌≤◌, Bool, true, false, length, get_or, sym, refl, ap, ◌∙◌, subst, arith, below_more}
-use Rattle.std.specs.List.{range_with_len}
+use Rattle.std.proofs.Common.{◌≡◌, ℕ, length, get_or, sym, refl, ap, ◌∙◌, arith, below_more}
 use Rattle.std.proofs.lemmas.List.FromFn.{fill_by_all, get_or-map-range_with_len}
-use Rattle.sharing.specs.Values.{shares_of, byte_through, value_through}
+use Rattle.sharing.specs.Values.{shares_of, byte_through}
 use Rattle.sharing.proofs.values.value_is.Goals as goal
 
 pub returns-then-byte_at-value : goal.returns-then-byte_at-value

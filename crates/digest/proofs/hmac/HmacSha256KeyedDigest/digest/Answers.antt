@@ -1,5 +1,5 @@
 -- The inner digest, the outer one, and what is answered.
-use Rattle.std.proofs.Common.{◌≡◌, ℕ, List, ◌++◌, drop, sym, ap, ◌∙◌, ap₂}
+use Rattle.std.proofs.Common.{ℕ, List, ◌++◌, drop, sym, ap, ◌∙◌, ap₂}
 use Rattle.digest.specs.Parts.{finished}
 use Rattle.digest.proofs.Keys.{hmac-is}
 use Rattle.digest.proofs.Replies.{digest_ok}

@@ -1,5 +1,5 @@
 -- One word more, and the end.
-use Rattle.std.proofs.Common.{◌≡◌, ◌++◌, length, sym, ap, ◌∙◌, ap₂, arith}
+use Rattle.std.proofs.Common.{◌++◌, length, sym, ap, ◌∙◌, ap₂, arith}
 use Rattle.std.proofs.lemmas.List.{take_all}
 use Rattle.digest.specs.Sha256.{bytes_of}
 use Rattle.digest.specs.Padding.{bytes-more}

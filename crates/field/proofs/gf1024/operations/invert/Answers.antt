@@ -1,5 +1,5 @@
 -- The loop of `invert`.
-use Rattle.std.proofs.Common.{◌≡◌, ℕ, suc, ◌+◌, ◌-◌, ◌<◌, sym, refl, ap, ◌∙◌, ap₂, arith}
+use Rattle.std.proofs.Common.{◌≡◌, suc, ◌+◌, ◌-◌, sym, ap, ◌∙◌, ap₂, arith}
 use Rattle.field.specs.CarryLess.{times_squares}
 use Rattle.field.proofs.gf1024.operations.invert.Goals as goal
 

@@ -1,5 +1,5 @@
 -- The squarings that are left give the same answer.
-use Rattle.std.proofs.Common.{◌≡◌, ◌-◌, ◌<◌, ◌≤◌}
+use Rattle.std.proofs.Common.{◌≡◌, ◌-◌, ◌<◌}
 use Rattle.field.specs.CarryLess.{times_squares}
 use Rattle.field.proofs.gf1024.operations.invert.Given as goal
 

@@ -1,5 +1,5 @@
 -- The product by the bits of b from i up.
-use Rattle.std.proofs.Common.{◌≡◌, ◌-◌, ◌/◌, ◌^◌, ◌<◌, ◌≤◌}
+use Rattle.std.proofs.Common.{◌≡◌, ◌-◌, ◌/◌, ◌^◌, ◌<◌}
 use Rattle.field.specs.CarryLess.{product_by}
 use Rattle.field.proofs.gf1024.operations.multiply.Given as goal
 

@@ -1,5 +1,5 @@
 -- The inverse by the negative of the logarithm.
-use Rattle.std.proofs.Common.{◌≡◌, ◌-◌, ◌%◌, get_or, ap, ◌∙◌, arith}
+use Rattle.std.proofs.Common.{◌-◌, ◌%◌, get_or, ap, ◌∙◌, arith}
 use Rattle.field.specs.Gf256.{powers}
 use Rattle.field.proofs.Gf256Tables.{by_negative}
 use Rattle.field.proofs.gf256.operations.invert.Goals as goal

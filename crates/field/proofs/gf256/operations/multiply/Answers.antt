@@ -1,5 +1,5 @@
 -- The product by logarithms.
-use Rattle.std.proofs.Common.{◌≡◌, ◌+◌, ◌%◌, ◌⊎◌, get_or, sym, refl, ap, ◌∙◌, ap₂, inl, inr}
+use Rattle.std.proofs.Common.{◌+◌, ◌%◌, get_or, sym, ap, ◌∙◌, ap₂, inl, inr}
 use Rattle.field.specs.Gf256.{multiplied, powers}
 use Rattle.field.specs.CarryLessRing.{product-zero, zero_product}
 use Rattle.field.proofs.Gf256Tables.{by_logarithms}

@@ -1,5 +1,5 @@
 -- Four digits of a number below 1,024 are its word; any other bytes stand for no word, or for several.
-use Rattle.std.proofs.Common.{◌≡◌, sym, refl, ap, ◌∙◌, arith}
+use Rattle.std.proofs.Common.{sym, arith}
 use Rattle.lexicon.specs.NumberWordsLemmas.{looked_up, unknown}
 use Rattle.lexicon.proofs.number_lexicon.NumberLexiconLexicon.find.Goals as goal
 

@@ -1,5 +1,5 @@
 -- The four digits are the word.
-use Rattle.std.proofs.Common.{◌≡◌, ◌+◌, ◌/◌, ◌%◌, [], ◌∷◌, take, sym, refl, ap, ◌∙◌, ap₂}
+use Rattle.std.proofs.Common.{◌≡◌, ◌+◌, ◌/◌, ◌%◌, [], ◌∷◌, take, sym, ap, ◌∙◌, ap₂}
 use Rattle.lexicon.specs.NumberWordsLemmas.{numbered-at}
 use Rattle.lexicon.proofs.number_lexicon.NumberLexiconLexicon.word.Goals as goal
 

@@ -1,5 +1,5 @@
 -- One turn by state and class, and the three ways out.
-use Rattle.std.proofs.Common.{◌≡◌, ℕ, ◌+◌, ◌<◌, ◌≤◌, ◌⊎◌, List, [], ◌∷◌, length, get_or, drop, sym, refl, ap, ◌∙◌, subst, inl, inr, arith}
+use Rattle.std.proofs.Common.{◌≡◌, ℕ, ◌+◌, ◌<◌, ◌≤◌, List, [], ◌∷◌, length, get_or, sym, refl, ap, ◌∙◌, arith}
 use Rattle.reader.specs.declared.line.State.{State}
 use Rattle.reader.specs.declared.line.State.TheVariants.{Between, InWord, InRemark}
 use Rattle.reader.specs.declared.line.Class.{Class}

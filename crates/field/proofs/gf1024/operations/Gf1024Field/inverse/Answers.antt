@@ -1,5 +1,5 @@
 -- The value of an inverse.
-use Rattle.std.proofs.Common.{◌≡◌, cond, Some, None, sym, refl, ap, ◌∙◌, mod-eq_of_lt, ne_eqb}
+use Rattle.std.proofs.Common.{cond, Some, None, sym, ap, ◌∙◌, mod-eq_of_lt, ne_eqb}
 use Rattle.field.specs.Gf1024.{element, inverted}
 use Rattle.field.specs.Gf1024Laws.{same, inverted-lt}
 use Rattle.field.proofs.gf1024.operations.Gf1024Field.inverse.Goals as goal
