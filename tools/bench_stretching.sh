@@ -8,9 +8,9 @@
 set -eu
 root=$(cd "$(dirname "$0")/.." && pwd)
 work=$(mktemp -d)
-(cd "$root" && rt staticlib cipher >"$work/staticlib.log" 2>&1) || { tail -n 5 "$work/staticlib.log" >&2; exit 1; }
-runtime=$(dirname "$(dirname "$(rt doc)")")/lib/librattle_c.a
+(cd "$root/crates/cipher_c" && rt lib >"$work/staticlib.log" 2>&1) || { tail -n 5 "$work/staticlib.log" >&2; exit 1; }
+cp "$root/crates/cipher_c/out/libcipher_c.a" "$work/libcipher.a"
 gcc -O3 -fPIC -c -o "$work/bench.o" "$root/tools/bench_stretching.c"
-gcc -shared -o "$work/bench.so" "$work/bench.o" -Wl,--whole-archive "$root/target/staticlib/libcipher.a" -Wl,--no-whole-archive "$runtime"
+gcc -shared -o "$work/bench.so" "$work/bench.o" -Wl,--whole-archive "$work/libcipher.a" -Wl,--no-whole-archive
 python3 "$root/tools/bench_stretching.py" "$work/bench.so"
 rm -r "$work"

@@ -6,7 +6,7 @@
 # Each of SCRIPTS scripts (3) has about COUNT commands (2000) of its own seed, SEED (1) and up; some lines have a
 # megabyte. It is written for each suite, in the number lexicon and in the words of WORD_FILE (the published list), and
 # faulty word files are opened. The samples of the gate are run first, in both suites and both lexicons.
-# The program is target/bin/kit, where `rt check kit` puts it once it is proved; where there is none, that is run first.
+# The program is crates/kit/out/kit, where `rt run` puts it once it is proved; where there is none, that is run first.
 # A difference is printed, and the commands that show it are left in the folder named. The status is then 1.
 set -eu
 root=$(cd "$(dirname "$0")/.." && pwd)
@@ -14,13 +14,13 @@ seed=${1:-1}
 scripts=${2:-3}
 count=${3:-2000}
 words=${4:-$root/crates/vectors/data/slip39-words.txt}
-program=$root/target/bin/kit
+program=$root/crates/kit/out/kit
 work=$(mktemp -d)
 
 if [ ! -x "$program" ]; then
-    (cd "$root" && rt check kit >"$work/check.log" 2>&1) || true
+    (cd "$root/crates/kit" && rt run -- numbers shop </dev/null >"$work/check.log" 2>&1) || true
     if [ ! -x "$program" ]; then
-        echo "rt check kit made no program: see $work/check.log" >&2
+        echo "rt run made no program: see $work/check.log" >&2
         exit 1
     fi
 fi

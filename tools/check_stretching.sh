@@ -6,8 +6,8 @@
 set -eu
 root=$(cd "$(dirname "$0")/.." && pwd)
 work=$(mktemp -d)
-(cd "$root" && rt staticlib cipher >"$work/staticlib.log" 2>&1) || { tail -n 5 "$work/staticlib.log" >&2; exit 1; }
-runtime=$(dirname "$(dirname "$(rt doc)")")/lib/librattle_c.a
-gcc -shared -o "$work/cipher.so" -Wl,--whole-archive "$root/target/staticlib/libcipher.a" -Wl,--no-whole-archive "$runtime"
+(cd "$root/crates/cipher_c" && rt lib >"$work/staticlib.log" 2>&1) || { tail -n 5 "$work/staticlib.log" >&2; exit 1; }
+cp "$root/crates/cipher_c/out/libcipher_c.a" "$work/libcipher.a"
+gcc -shared -o "$work/cipher.so" -Wl,--whole-archive "$work/libcipher.a" -Wl,--no-whole-archive
 python3 "$root/tools/check_stretching.py" "$work/cipher.so" "$@"
 rm -r "$work"

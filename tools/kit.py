@@ -1,4 +1,7 @@
-"""Answers the commands of the program `kit`: python3 tools/kit.py LEXICON SUITE < commands."""
+"""Answers the commands of the program `kit`: python3 tools/kit.py LEXICON SUITE [--all] < commands.
+
+The commands are those that the program has today; with --all also those that it is to get.
+"""
 
 import sys
 
@@ -24,6 +27,8 @@ TAKES = {
     b"tally": "tally takes nothing",
     b"open-in": "open-in takes the sizes of two spaces, each at most 65535, and a passphrase",
 }
+# the commands that the program has today
+TODAY = (b"read", b"write")
 # the spaces that `open` brings
 WORK_SPACE = 2048
 ANSWER_SPACE = 64
@@ -164,7 +169,8 @@ def lexicon_named(name):
 
 
 def main(options):
-    if len(options) != 2 or options[1] not in cipher.SUITES:
+    every = options[2:] == ["--all"]
+    if len(options) != 2 + every or options[1] not in cipher.SUITES:
         print(USAGE)
         return
     try:
@@ -175,6 +181,8 @@ def main(options):
     except slip39.Refused as refusal:
         print(refused_line(refusal))
         return
+    if not every:
+        session.commands = {name: session.commands[name] for name in TODAY}
     for line in sys.stdin.buffer:
         text = session.answer(line.removesuffix(b"\n"))
         if text is not None:

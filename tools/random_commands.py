@@ -1,7 +1,8 @@
-"""Writes a random script for `kit`: python3 tools/random_commands.py SEED COUNT SUITE [WORD_FILE] > commands.
+"""Writes a random script for `kit`: python3 tools/random_commands.py SEED COUNT SUITE [WORD_FILE [--all]] > commands.
 
 It has about COUNT commands. With a word file the cards are in its words, some of them shortened. Some lines have a
-megabyte. The same seed gives the same bytes.
+megabyte. The same seed gives the same bytes. The commands are those that the program has today; with --all also those
+that it is to get.
 """
 
 import pathlib
@@ -55,9 +56,9 @@ def no_command(rng):
     return rng.choice([*others, name, name + b"x 1", name + b" 1", b" " + name])
 
 
-def add(rng, script):
+def add(rng, script, every):
     """Adds a random command, or a story of the tray."""
-    kind = rng.randrange(1000)
+    kind = rng.randrange(1000) if every else rng.choice((*range(640), *range(940, 1000)))
     if kind < 420:
         script.say(b"read " + random_lines.card_line(rng))
     elif kind < 423:
@@ -89,12 +90,12 @@ def in_words(rng, words, line):
     return re.sub(rb"[0-9]{4}", word, line)
 
 
-def main(seed, count, suite, word_file=None):
+def main(seed, count, suite, word_file=None, every=None):
     rng = random.Random(seed)
     words = pathlib.Path(word_file).read_bytes().split() if word_file else []
     script = QuickScript(cipher.SUITES[suite])
     while len(script.lines) < count:
-        add(rng, script)
+        add(rng, script, every == "--all")
     sys.stdout.buffer.write(b"\n".join(in_words(rng, words, line) for line in script.lines))
 
 

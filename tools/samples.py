@@ -2,7 +2,8 @@
 
     python3 tools/samples.py [--upto card|cipher|deal|tray]
 
-They are those on cards, then those of the cipher, of dealing and of the tray, up to the subject named (the last).
+They are those on cards, then those of the cipher, of dealing and of the tray, up to the subject named (cards, which is
+what the program has commands for today).
 The answers to them, crates/kit/stdout, come from tools/kit.py:
 
     python3 tools/kit.py numbers shop < crates/kit/stdin > crates/kit/stdout
@@ -167,7 +168,7 @@ def lines(rng, last):
 
 def main():
     parser = argparse.ArgumentParser()
-    parser.add_argument("--upto", choices=list(SUBJECTS), default="tray")
+    parser.add_argument("--upto", choices=list(SUBJECTS), default="card")
     OUT.write_bytes(b"\n".join(lines(random.Random(39), parser.parse_args().upto)))
 
 

@@ -2,7 +2,7 @@
 
     python3 tools/vector_commands.py [--upto read|open]
 
-Up to `read`, every card is read. Up to `open`, as where nothing is said, the cards of each vector are then laid and
+Up to `read`, as where nothing is said, every card is read. Up to `open` the cards of each vector are then laid and
 opened, and all that lie are withdrawn, so that the next vector finds the tray empty. The answers to the commands,
 crates/vectors/stdout, come from tools/kit.py:
 
@@ -62,7 +62,7 @@ def lines(lexicon, vectors, level):
 
 def main():
     parser = argparse.ArgumentParser()
-    parser.add_argument("--upto", choices=LEVELS, default=LEVELS[-1])
+    parser.add_argument("--upto", choices=LEVELS, default=LEVELS[0])
     level = parser.parse_args().upto
     text = "\n".join(lines(published_lexicon(), published_vectors(), level)) + "\n"
     (CRATE / "stdin").write_text(text)

@@ -1,4 +1,4 @@
-//! Stretching for a C caller, over two digests.
+//! Stretching as a C caller wants it, over two digests; the crate cipher_c exports it.
 ghost use Rattle.std.specs.Prelude.{◌≡◌, ◌++◌, length, drop, if◌then◌else◌};
 ghost use Rattle.digest.specs.Drill.{drill_digest};
 ghost use Rattle.digest.specs.Hmac.{hmac};
@@ -43,8 +43,7 @@ fn apply_to_numbers<F: RoundFunction>(
 
 /// Stretching over HMAC-SHA-256 for a C caller: writes to the front of `out` and answers true; false, with nothing written,
 /// if a number is out of range or the input is refused.
-#[unsafe(no_mangle)]
-pub extern "C" fn cipher_stretch_hmac_sha256(
+pub fn cipher_stretch_hmac_sha256(
     round: u8,
     passphrase: &[u8],
     identifier: u16,
@@ -71,8 +70,7 @@ pub extern "C" fn cipher_stretch_hmac_sha256(
 
 /// Stretching over the drill digest for a C caller: writes to the front of `out` and answers true; false, with nothing written,
 /// if a number is out of range or the input is refused.
-#[unsafe(no_mangle)]
-pub extern "C" fn cipher_stretch_drill(
+pub fn cipher_stretch_drill(
     round: u8,
     passphrase: &[u8],
     identifier: u16,
