@@ -1,6 +1,6 @@
 -- The worked examples: a table of what the definitions give, with what they should give.
 use Rattle.std.specs.Prelude.{◌≡◌, ℕ, false, cond, List, [], ◌∷◌, ◌++◌, map, replicate, Some, None, Ok, Err, Option, Result}
-use Rattle.std.specs.List.{AllByRecursion as All}
+use Rattle.std.specs.List.{AllByRecursion}
 use Rattle.field.specs.declared.gf256.Gf256.{Gf256}
 use Rattle.field.specs.Gf256 as gf256
 use Rattle.field.specs.Gf1024.{element, product}
@@ -83,4 +83,4 @@ table =
     ∷ []
 
 abbrev pub WorkedExamples : Type 0
-WorkedExamples = All (λ r. r.given ≡ r.wanted) table
+WorkedExamples = AllByRecursion (λ r. r.given ≡ r.wanted) table

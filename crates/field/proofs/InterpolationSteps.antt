@@ -1,6 +1,6 @@
 -- The steps of the interpolation: one quotient more, one point more.
 use Rattle.std.proofs.Common.{◌≡◌, ℕ, ◌+◌, ◌<◌, ◌≤◌, List, [], ◌∷◌, ◌++◌, length, get_or, take, drop, Some, None, Option, sym, refl, ap, ◌∙◌, subst, ap₂, arith, MatchOption}
-use Rattle.std.specs.List.{AllByRecursion as All}
+use Rattle.std.specs.List.{AllByRecursion}
 use Rattle.std.proofs.ByRecursion.{All-append}
 use Rattle.std.proofs.lemmas.List.{take-append-drop, take_all, take_more, map-append}
 use Rattle.field.specs.Laws.{Laws}
@@ -33,16 +33,16 @@ pub xs_drop : {F : Type 0} (l : List (Point F)) (i : ℕ) (p : Point F) → i < 
 xs_drop l i p h e = ap xs_of (item-next l i p h e)
 
 -- ---- all but one
-all-around : {A : Type 0} (P : A → Type 0) (front : List A) (x : A) (rest : List A) → All P (front ++ (x ∷ rest)) → P x
+all-around : {A : Type 0} (P : A → Type 0) (front : List A) (x : A) (rest : List A) → AllByRecursion P (front ++ (x ∷ rest)) → P x
 all-around P [] x rest all = all.0
 all-around P (y ∷ front) x rest all = all-around P front x rest all.1
 
-all_left : {A : Type 0} (P : A → Type 0) (front rest : List A) → All P (front ++ rest) → All P front
+all_left : {A : Type 0} (P : A → Type 0) (front rest : List A) → AllByRecursion P (front ++ rest) → AllByRecursion P front
 all_left P [] rest all = tt
 all_left P (y ∷ front) rest all = (all.0, all_left P front rest all.1)
 
 distinct_around : {A : Type 0} (front : List A) (x : A) (rest : List A) → Distinct (front ++ (x ∷ rest))
-    → All (λ y. y ≡ x → ⊥) front × All (λ y. y ≡ x → ⊥) rest
+    → AllByRecursion (λ y. y ≡ x → ⊥) front × AllByRecursion (λ y. y ≡ x → ⊥) rest
 distinct_around [] x rest d = (tt, d.0)
 distinct_around (y ∷ front) x rest d =
     let more = distinct_around front x rest d.1 in
@@ -74,32 +74,32 @@ module _ {F : Type 0} {zeroF one : F} {◌⊕◌ ◌⊗◌ : F → F → F} {inv
       ∙ ap (λ o. result ⊗ (((x ⊕ xj) ⊗ value_or zeroF o) ⊗ Q xi xs)) (sym some)
 
   meets : (xi : F) (l : List (Point F)) (i : ℕ) (p : Point F) → i < length l → p ≡ get_or l i p → inverse (xi ⊕ p.x) ≡ None
-      → All (λ xj. xj ≡ xi → ⊥) (xs_of l) → ⊥
+      → AllByRecursion (λ xj. xj ≡ xi → ⊥) (xs_of l) → ⊥
   meets xi l i p h e none all =
       no_divisor xi p.x none
-      (all-around (λ xj. xj ≡ xi → ⊥) (xs_of (take i l)) p.x (xs_of (drop (i + 1) l)) (subst (All (λ xj. xj ≡ xi → ⊥)) (xs_split l i p h e) all))
+      (all-around (λ xj. xj ≡ xi → ⊥) (xs_of (take i l)) p.x (xs_of (drop (i + 1) l)) (subst (AllByRecursion (λ xj. xj ≡ xi → ⊥)) (xs_split l i p h e) all))
 
   pub quotients-none : (xi start : F) (l : List (Point F)) (i : ℕ) (p : Point F) (r : Option F) → i < length l → p ≡ get_or l i p
       → inverse (xi ⊕ p.x) ≡ None → r ≡ None
-      → MatchOption r (All (λ xj. xj ≡ xi → ⊥) (xs_of l) → ⊥) (λ v. All (λ xj. xj ≡ xi → ⊥) (xs_of l) × (v ≡ (start ⊗ Q xi (xs_of l))))
+      → MatchOption r (AllByRecursion (λ xj. xj ≡ xi → ⊥) (xs_of l) → ⊥) (λ v. AllByRecursion (λ xj. xj ≡ xi → ⊥) (xs_of l) × (v ≡ (start ⊗ Q xi (xs_of l))))
   quotients-none xi start l i p None h e none is = meets xi l i p h e none
   quotients-none xi start l i p (Some v) h e none is = absurd (never (Some v) v is refl)
 
   pub quotients-more : (xi start result next d : F) (l : List (Point F)) (i : ℕ) (p : Point F) → i < length l → p ≡ get_or l i p
       → inverse (xi ⊕ p.x) ≡ Some d → next ≡ (result ⊗ ((x ⊕ p.x) ⊗ d))
-      → ((result ⊗ Q xi (xs_of (drop i l))) ≡ (start ⊗ Q xi (xs_of l))) × All (λ xj. xj ≡ xi → ⊥) (xs_of (take i l))
-      → ((next ⊗ Q xi (xs_of (drop (i + 1) l))) ≡ (start ⊗ Q xi (xs_of l))) × All (λ xj. xj ≡ xi → ⊥) (xs_of (take (i + 1) l))
+      → ((result ⊗ Q xi (xs_of (drop i l))) ≡ (start ⊗ Q xi (xs_of l))) × AllByRecursion (λ xj. xj ≡ xi → ⊥) (xs_of (take i l))
+      → ((next ⊗ Q xi (xs_of (drop (i + 1) l))) ≡ (start ⊗ Q xi (xs_of l))) × AllByRecursion (λ xj. xj ≡ xi → ⊥) (xs_of (take (i + 1) l))
   quotients-more xi start result next d l i p h e some is inv = (
     quotients-step xi p.x d result next (xs_of (drop (i + 1) l)) some is ∙ ap (λ xs. result ⊗ Q xi xs) (sym (xs_drop l i p h e)) ∙ inv.0,
-    subst (All (λ xj. xj ≡ xi → ⊥)) (sym (xs_take l i p h e))
+    subst (AllByRecursion (λ xj. xj ≡ xi → ⊥)) (sym (xs_take l i p h e))
         (All-append (λ xj. xj ≡ xi → ⊥) (xs_of (take i l)) (p.x ∷ []) inv.1 (a-divisor xi p.x d some, tt)),
   )
 
   pub quotients-all : (xi start result : F) (l : List (Point F)) (i : ℕ) → i ≤ length l → length l ≤ i
-      → ((result ⊗ Q xi (xs_of (drop i l))) ≡ (start ⊗ Q xi (xs_of l))) × All (λ xj. xj ≡ xi → ⊥) (xs_of (take i l))
-      → All (λ xj. xj ≡ xi → ⊥) (xs_of l) × (result ≡ (start ⊗ Q xi (xs_of l)))
+      → ((result ⊗ Q xi (xs_of (drop i l))) ≡ (start ⊗ Q xi (xs_of l))) × AllByRecursion (λ xj. xj ≡ xi → ⊥) (xs_of (take i l))
+      → AllByRecursion (λ xj. xj ≡ xi → ⊥) (xs_of l) × (result ≡ (start ⊗ Q xi (xs_of l)))
   quotients-all xi start result l i h k inv = (
-    subst (λ m. All (λ xj. xj ≡ xi → ⊥) (xs_of m)) (take_all i l k) inv.1,
+    subst (λ m. AllByRecursion (λ xj. xj ≡ xi → ⊥) (xs_of m)) (take_all i l k) inv.1,
     sym (law.product_one result) ∙ ap (λ m. result ⊗ Q xi (xs_of m)) (sym (finished l i h k)) ∙ inv.0,
   )
 
@@ -112,7 +112,7 @@ module _ {F : Type 0} {zeroF one : F} {◌⊕◌ ◌⊗◌ : F → F → F} {inv
 
   pub point_more : (total next before term : F) (l front rest : List (Point F)) (i : ℕ) (p : Point F) → i < length l → p ≡ get_or l i p
       → front ≡ take i l → rest ≡ drop (i + 1) l
-      → All (λ xj. xj ≡ p.x → ⊥) (xs_of rest)
+      → AllByRecursion (λ xj. xj ≡ p.x → ⊥) (xs_of rest)
       → before ≡ (p.y ⊗ Q p.x (xs_of front)) → term ≡ (before ⊗ Q p.x (xs_of rest)) → next ≡ (total ⊕ term)
       → ((total ⊕ L (xs_of (take i l)) (drop i l)) ≡ L [] l) × (Distinct (xs_of (drop i l)) → Distinct (xs_of l))
       → ((next ⊕ L (xs_of (take (i + 1) l)) (drop (i + 1) l)) ≡ L [] l) × (Distinct (xs_of (drop (i + 1) l)) → Distinct (xs_of l))
@@ -126,7 +126,7 @@ module _ {F : Type 0} {zeroF one : F} {◌⊕◌ ◌⊗◌ : F → F → F} {inv
         ap₂ (λ a xs. a ⊕ L xs (drop (i + 1) l)) (is-next ∙ ap (λ y. total ⊕ y) whole) (xs_take l i p h e)
             ∙ law.sum_assoc total _ (L (fs ++ (p.x ∷ [])) (drop (i + 1) l))
             ∙ ap (λ m. total ⊕ L fs m) (sym (item-next l i p h e)) ∙ inv.0,
-        λ d. inv.1 (subst Distinct (sym (xs_drop l i p h e)) (subst (λ m. All (λ xj. xj ≡ p.x → ⊥) (xs_of m)) is-rest far, d)),
+        λ d. inv.1 (subst Distinct (sym (xs_drop l i p h e)) (subst (λ m. AllByRecursion (λ xj. xj ≡ p.x → ⊥) (xs_of m)) is-rest far, d)),
       )
 
   pub points_all : (total : F) (l : List (Point F)) (i : ℕ) → i ≤ length l → length l ≤ i
@@ -141,15 +141,15 @@ module _ {F : Type 0} {zeroF one : F} {◌⊕◌ ◌⊗◌ : F → F → F} {inv
   points_start total l e = ap (λ y. y ⊕ L [] l) e ∙ Ring.zero_sum law (L [] l)
 
   pub not_before : (l front : List (Point F)) (i : ℕ) (p : Point F) → i < length l → p ≡ get_or l i p → front ≡ take i l
-      → (All (λ xj. xj ≡ p.x → ⊥) (xs_of front) → ⊥) → Distinct (xs_of l) → ⊥
+      → (AllByRecursion (λ xj. xj ≡ p.x → ⊥) (xs_of front) → ⊥) → Distinct (xs_of l) → ⊥
   not_before l front i p h e is none d =
-      none (subst (λ m. All (λ xj. xj ≡ p.x → ⊥) (xs_of m)) (sym is)
+      none (subst (λ m. AllByRecursion (λ xj. xj ≡ p.x → ⊥) (xs_of m)) (sym is)
       (distinct_around (xs_of (take i l)) p.x (xs_of (drop (i + 1) l)) (subst Distinct (xs_split l i p h e) d)).0)
 
   pub not_after : (l rest : List (Point F)) (i : ℕ) (p : Point F) → i < length l → p ≡ get_or l i p → rest ≡ drop (i + 1) l
-      → (All (λ xj. xj ≡ p.x → ⊥) (xs_of rest) → ⊥) → Distinct (xs_of l) → ⊥
+      → (AllByRecursion (λ xj. xj ≡ p.x → ⊥) (xs_of rest) → ⊥) → Distinct (xs_of l) → ⊥
   not_after l rest i p h e is none d =
-      none (subst (λ m. All (λ xj. xj ≡ p.x → ⊥) (xs_of m)) (sym is)
+      none (subst (λ m. AllByRecursion (λ xj. xj ≡ p.x → ⊥) (xs_of m)) (sym is)
       (distinct_around (xs_of (take i l)) p.x (xs_of (drop (i + 1) l)) (subst Distinct (xs_split l i p h e) d)).1)
 
   pub absent : (l : List (Point F)) (r : Option F) → r ≡ None → (Distinct (xs_of l) → ⊥) → Interpolated zeroF one ◌⊕◌ ◌⊗◌ inverse x l r

@@ -1,7 +1,7 @@
 -- Lagrange's sum over points with distinct x is the value of the only polynomial through them.
 use Rattle.std.proofs.Common.{◌≡◌, ℕ, zero, suc, ◌+◌, List, [], ◌∷◌, ◌++◌, length, Option, sym, refl, ap, ◌∙◌, ap₂, le_of_eq, zero-add, arith, length-append}
 use lib.ListN.{length-map}
-use Rattle.std.specs.List.{AllByRecursion as All}
+use Rattle.std.specs.List.{AllByRecursion}
 use Rattle.std.proofs.ByRecursion.{All-append, All-push}
 use Rattle.field.specs.Laws.{Laws}
 use Rattle.field.specs.Polynomial.{value_at}
@@ -26,12 +26,12 @@ in_right : {A : Type 0} {x : A} (xs : List A) {ys : List A} → In x ys → In x
 in_right [] i = i
 in_right (y ∷ xs) i = there (in_right xs i)
 
-pub of_in : {A : Type 0} (P : A → Type 0) (x : A) (xs : List A) → All P xs → In x xs → P x
+pub of_in : {A : Type 0} (P : A → Type 0) (x : A) (xs : List A) → AllByRecursion P xs → In x xs → P x
 of_in P x [] all i = elim i [ ]
 of_in P x (y ∷ xs) all here = all.0
 of_in P x (y ∷ xs) all (there i) = of_in P x xs all.1 i
 
-pub all_in : {A : Type 0} (P : A → Type 0) (xs : List A) → ((x : A) → In x xs → P x) → All P xs
+pub all_in : {A : Type 0} (P : A → Type 0) (xs : List A) → ((x : A) → In x xs → P x) → AllByRecursion P xs
 all_in P [] f = tt
 all_in P (x ∷ xs) f = (f x here, all_in P xs (λ y i. f y (there i)))
 
@@ -69,7 +69,7 @@ module _ {F : Type 0} {zeroF one : F} {◌⊕◌ ◌⊗◌ : F → F → F} {inv
   Q-zero x xi (xj ∷ xs) (there i) =
       ap (λ y. ((x ⊕ xj) ⊗ over (xi ⊕ xj)) ⊗ y) (Q-zero x xi xs i) ∙ Ring.times_zero law _
 
-  Q-one : (x : F) (xs : List F) → All (λ y. y ≡ x → ⊥) xs → Q x x xs ≡ one
+  Q-one : (x : F) (xs : List F) → AllByRecursion (λ y. y ≡ x → ⊥) xs → Q x x xs ≡ one
   Q-one x [] far = refl
   Q-one x (xj ∷ xs) far =
       ap₂ ◌⊗◌ (over-right (x ⊕ xj) (Ring.apart law x xj (λ e. far.0 (sym e)))) (Q-one x xs far.1) ∙ law.product_one one
@@ -81,7 +81,7 @@ module _ {F : Type 0} {zeroF one : F} {◌⊕◌ ◌⊗◌ : F → F → F} {inv
       (L-zero z (before ++ (p.x ∷ [])) ps (in_left (p.x ∷ []) i))
       ∙ law.sum_zero zeroF
 
-  L-hit : (p : Point F) (before : List F) (ps : List (Point F)) → All (λ y. y ≡ p.x → ⊥) before → Distinct (xs_of ps) → In p ps → L p.x before ps ≡ p.y
+  L-hit : (p : Point F) (before : List F) (ps : List (Point F)) → AllByRecursion (λ y. y ≡ p.x → ⊥) before → Distinct (xs_of ps) → In p ps → L p.x before ps ≡ p.y
   L-hit p before [] far distinct i = elim i [ ]
   L-hit p before (q ∷ ps) far distinct here =
       ap₂ ◌⊕◌ (ap (λ y. p.y ⊗ y) (Q-one p.x (before ++ xs_of ps) (All-append (λ y. y ≡ p.x → ⊥) before (xs_of ps) far distinct.0)) ∙ law.product_one p.y)
@@ -188,12 +188,12 @@ module _ {F : Type 0} {zeroF one : F} {◌⊕◌ ◌⊗◌ : F → F → F} {inv
   abbrev at : F → List F → F
   at x cs = value_at zeroF one ◌⊕◌ ◌⊗◌ x cs
 
-  all-xs : (P : F → Type 0) (ps : List (Point F)) → All (λ p. P p.x) ps → All P (xs_of ps)
+  all-xs : (P : F → Type 0) (ps : List (Point F)) → AllByRecursion (λ p. P p.x) ps → AllByRecursion P (xs_of ps)
   all-xs P [] all = tt
   all-xs P (p ∷ ps) all = (all.0, all-xs P ps all.1)
 
   pub both : (cs ds : List F) (ps : List (Point F)) → Through zeroF one ◌⊕◌ ◌⊗◌ inverse cs ps → Through zeroF one ◌⊕◌ ◌⊗◌ inverse ds ps
-      → All (λ z. at z cs ≡ at z ds) (xs_of ps)
+      → AllByRecursion (λ z. at z cs ≡ at z ds) (xs_of ps)
   both cs ds [] a b = tt
   both cs ds (p ∷ ps) a b = (a.0 ∙ sym b.0, both cs ds ps a.1 b.1)
 

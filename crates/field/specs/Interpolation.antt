@@ -1,13 +1,13 @@
 -- Interpolation by Lagrange's formula, in a field where a difference is a sum.
 use Rattle.std.specs.Prelude.{◌≡◌, List, [], ◌∷◌, ◌++◌, map, length, Some, None, Option, MatchOption, ◌≢◌}
-use Rattle.std.specs.List.{AllByRecursion as All}
+use Rattle.std.specs.List.{AllByRecursion}
 use Rattle.field.specs.declared.interpolation.point.Point.{Point}
 use Rattle.field.specs.Polynomial.{value_at}
 
 -- no two are equal
 abbrev pub Distinct : {A : Type 0} → List A → Type 0
 Distinct [] = Unit {0}
-Distinct (x ∷ xs) = All (λ y. y ≢ x) xs × Distinct xs
+Distinct (x ∷ xs) = AllByRecursion (λ y. y ≢ x) xs × Distinct xs
 
 abbrev pub xs_of : {F : Type 0} → List (Point F) → List F
 xs_of points = map (λ p. p.x) points
@@ -41,7 +41,7 @@ module _ {F : Type 0} (zeroF oneF : F) (sum product : F → F → F) (inverse : 
 
   -- the polynomial with these coefficients, the highest first, has at each point's x the value y
   abbrev pub Through : List F → List (Point F) → Type 0
-  Through coefficients points = All (λ p. value_at zeroF oneF sum product p.x coefficients ≡ p.y) points
+  Through coefficients points = AllByRecursion (λ p. value_at zeroF oneF sum product p.x coefficients ≡ p.y) points
 
   -- the only polynomial of degree below the number of points that goes through them; its values are the interpolated ones
   pub record ThePolynomial (points : List (Point F)) (coefficients : List F) : Type 0 where

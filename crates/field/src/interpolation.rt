@@ -1,5 +1,5 @@
 ghost use Rattle.std.specs.Prelude.{◌≡◌, MatchOption, ◌≢◌};
-ghost use Rattle.std.specs.List.{AllByRecursion as All};
+ghost use Rattle.std.specs.List.{AllByRecursion};
 ghost use Rattle.field.specs.Interpolation.{xs_of, quotients, Interpolated, OnePolynomial};
 
 use crate::Field;
@@ -11,7 +11,7 @@ pub use point::Point;
 
 /// `start` times the product, over the others, of (x - xj) / (xi - xj), unless one of these is a division by 0.
 fn times_quotients<F: Field>(start: F, x: F, xi: F, others: &[Point<F>]) -> Option<F>
-    ensures { MatchOption result (All (λ xj. xj ≢ xi) (xs_of others.now) → ⊥) (λ v. All (λ xj. xj ≢ xi) (xs_of others.now) × (v ≡ F.product start (quotients F.zero F.one F.sum F.product F.inverse x xi (xs_of others.now)))) }
+    ensures { MatchOption result (AllByRecursion (λ xj. xj ≢ xi) (xs_of others.now) → ⊥) (λ v. AllByRecursion (λ xj. xj ≢ xi) (xs_of others.now) × (v ≡ F.product start (quotients F.zero F.one F.sum F.product F.inverse x xi (xs_of others.now)))) }
 {
     let mut result = start;
     for other in others {

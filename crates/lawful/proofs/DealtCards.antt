@@ -1,6 +1,6 @@
 -- Cards that a lawful deal dealt can be written, and can lie in one tray.
 use Rattle.std.proofs.Common.{◌≡◌, ℕ, ◌+◌, ◌*◌, ◌%◌, ◌<◌, ◌≤◌, Bool, true, ◌&&◌, eqb, leb, List, map, length, sym, ap, ◌∙◌, subst, ap₂, arith}
-use Rattle.std.specs.List.{AllByRecursion as All}
+use Rattle.std.specs.List.{AllByRecursion}
 use Rattle.std.specs.Int.Digits.{AllBelowBase}
 use Rattle.std.proofs.ByRecursion.{All-weaker}
 use Rattle.std.proofs.lemmas.Bool.{eqb-true, leb-true, and_parts}
@@ -62,12 +62,12 @@ module _ (keyed : List ℕ → List ℕ → List ℕ) (function : ℕ → List �
         member_threshold = λ e. p.member_threshold ∙ ap deal.member_threshold e ∙ sym q.member_threshold;
       }
 
-  pub dealt_together : (cards : List Fields) → All DealtCard cards → Distinct (map (λ c. 16 * c.group + c.member) cards) → Together cards
+  pub dealt_together : (cards : List Fields) → AllByRecursion DealtCard cards → Distinct (map (λ c. 16 * c.group + c.member) cards) → Together cards
   dealt_together cards all apart =
       record {
         lawful = All-weaker DealtCard Lawful dealt_lawful cards all;
         places = apart;
-        agree = All-weaker DealtCard (λ a. All (Agree a) cards) (λ a p. All-weaker DealtCard (Agree a) (λ b q. dealt_agree a b p q) cards all) cards all;
+        agree = All-weaker DealtCard (λ a. AllByRecursion (Agree a) cards) (λ a p. All-weaker DealtCard (Agree a) (λ b q. dealt_agree a b p q) cards all) cards all;
       }
 
   pub dealt_once : (a b : Fields) → DealtCard a → DealtCard b → a.group ≡ b.group → a.member ≡ b.member → a.value ≡ b.value

@@ -1,7 +1,7 @@
 -- What a lawful deal that dealt all cards says of their rows.
 use Rattle.std.proofs.Common.{◌≡◌, ℕ, ◌<◌, ◌≤◌, Bool, true, List, [], ◌∷◌, map, length, sym, ap, ◌∙◌, subst, arith}
 use lib.ListN.{length-map}
-use Rattle.std.specs.List.{AllByRecursion as All}
+use Rattle.std.specs.List.{AllByRecursion}
 use Rattle.std.proofs.ByRecursion.{All-weaker}
 use Rattle.field.specs.Interpolation.{Distinct}
 use Rattle.digest.specs.Keyed.{Bytes}
@@ -36,9 +36,9 @@ module _ (keyed : List ℕ → List ℕ → List ℕ) where
         bytes = all_join (λ s. s.x < 256) (λ s. f s.x ≡ s.value) (λ s. Bytes s.value) (λ s l o. subst Bytes o (curve_bytes t e f c s.x l)) secrets small on;
       }
     where
-      small : All (λ s. s.x < 256) secrets
+      small : AllByRecursion (λ s. s.x < 256) secrets
       small = all_of_map (λ i. i < 256) (λ s. s.x) secrets
-          (subst (All (λ i. i < 256)) (sym rows) (All-weaker (λ i. i < 16) (λ i. i < 256) (λ i l. omega arith) (full_rows cards) (full_rows_low cards)))
+          (subst (AllByRecursion (λ i. i < 256)) (sym rows) (All-weaker (λ i. i < 16) (λ i. i < 256) (λ i l. omega arith) (full_rows cards) (full_rows_low cards)))
 
   pub secrets_enough : (cards : List Fields) (secrets : List Share) → map (λ s. s.x) secrets ≡ full_rows cards
       → group_threshold_of cards ≤ length (full_rows cards) → group_threshold_of cards ≤ length secrets
@@ -46,13 +46,13 @@ module _ (keyed : List ℕ → List ℕ → List ℕ) where
 
 module _ (keyed : List ℕ → List ℕ → List ℕ) (laws : CurveLaws keyed) (function : ℕ → List ℕ → ℕ → Bool → ℕ → List ℕ → List ℕ)
     (passphrase m : List ℕ) (deal : LawfulDeal keyed function passphrase m)
-    (cards : List Fields) (together : Together cards) (dealt : All (Dealt keyed function passphrase m deal) cards) where
+    (cards : List Fields) (together : Together cards) (dealt : AllByRecursion (Dealt keyed function passphrase m deal) cards) where
   -- the deal puts a row with cards in it on its curve for the group's secret
-  row_on : (i : ℕ) (row : List Fields) → All (Dealt keyed function passphrase m deal) row → All (λ c. c.group ≡ i) row → On (deal.card_value i) (shares_of_row row)
+  row_on : (i : ℕ) (row : List Fields) → AllByRecursion (Dealt keyed function passphrase m deal) row → AllByRecursion (λ c. c.group ≡ i) row → On (deal.card_value i) (shares_of_row row)
   row_on i [] all group = tt
   row_on i (c ∷ row) all group = (ap (λ g. deal.card_value g c.member) (sym group.0) ∙ sym all.0.value, row_on i row all.1 group.1)
 
-  row_in : (i : ℕ) (row : List Fields) → 1 ≤ length row → All (Dealt keyed function passphrase m deal) row → All (λ c. c.group ≡ i) row
+  row_in : (i : ℕ) (row : List Fields) → 1 ≤ length row → AllByRecursion (Dealt keyed function passphrase m deal) row → AllByRecursion (λ c. c.group ≡ i) row
       → (i < deal.group_count) × (threshold_of row ≡ deal.member_threshold i)
   row_in i [] some all group = absurd (omega arith)
   row_in i (c ∷ row) some all group = (subst (λ g. g < deal.group_count) group.0 all.0.group, all.0.member_threshold ∙ ap deal.member_threshold group.0)
@@ -80,7 +80,7 @@ module _ (keyed : List ℕ → List ℕ → List ℕ) (laws : CurveLaws keyed) (
   pub group-threshold : 1 ≤ length cards → group_threshold_of cards ≡ deal.group_threshold
   group-threshold = first cards dealt
     where
-      first : (cs : List Fields) → All (Dealt keyed function passphrase m deal) cs → 1 ≤ length cs → group_threshold_of cs ≡ deal.group_threshold
+      first : (cs : List Fields) → AllByRecursion (Dealt keyed function passphrase m deal) cs → 1 ≤ length cs → group_threshold_of cs ≡ deal.group_threshold
       first [] all some = absurd (omega arith)
       first (c ∷ cs) all some = all.0.group_threshold
 
@@ -95,7 +95,7 @@ module _ (keyed : List ℕ → List ℕ → List ℕ) (laws : CurveLaws keyed) (
   secrets_on secrets is =
       all_join (λ s. is_full (row_of s.x cards) ≡ true) (λ s. RowFits keyed cards s.x s.value) (λ s. deal.group_secret s.x ≡ s.value)
       (λ s full fits. full_row_secret s.x full s.value fits) secrets
-      (all_of_map (λ i. is_full (row_of i cards) ≡ true) (λ s. s.x) secrets (subst (All (λ i. is_full (row_of i cards) ≡ true)) (sym is.rows) (full_rows_full cards))) is.fit
+      (all_of_map (λ i. is_full (row_of i cards) ≡ true) (λ s. s.x) secrets (subst (AllByRecursion (λ i. is_full (row_of i cards) ≡ true)) (sym is.rows) (full_rows_full cards))) is.fit
 
   pub dealt_secrets_sound : (secrets : List Share) → RowSecrets keyed cards secrets → Shares (length secret_of_deal) secrets
   dealt_secrets_sound secrets is =

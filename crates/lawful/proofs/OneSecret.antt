@@ -1,6 +1,6 @@
 -- No two secrets are those of deals that dealt the same cards.
 use Rattle.std.proofs.Common.{◌≡◌, ℕ, ◌≤◌, Bool, true, List, [], ◌∷◌, map, length, sym, ap, ◌∙◌, arith}
-use Rattle.std.specs.List.{AllByRecursion as All}
+use Rattle.std.specs.List.{AllByRecursion}
 use Rattle.std.proofs.ByRecursion.{All-weaker, All-map}
 use Rattle.cipher.specs.Feistel.{under, encrypted}
 use Rattle.cipher.proofs.Inverse.{undone}
@@ -43,7 +43,7 @@ module _ (keyed : List ℕ → List ℕ → List ℕ) (laws : CurveLaws keyed) (
 
   -- two deals that dealt a card have its identifier, flag and exponent
   same_rounds : (m n : List ℕ) (a : LawfulDeal keyed function passphrase m) (b : LawfulDeal keyed function passphrase n) (cs : List Fields)
-      → 1 ≤ length cs → All (Dealt keyed function passphrase m a) cs → All (Dealt keyed function passphrase n b) cs
+      → 1 ≤ length cs → AllByRecursion (Dealt keyed function passphrase m a) cs → AllByRecursion (Dealt keyed function passphrase n b) cs
       → encrypted (under function passphrase b.identifier b.extendable b.exponent) n ≡ encrypted (under function passphrase a.identifier a.extendable a.exponent) n
   same_rounds m n a b [] some p q = absurd (omega arith)
   same_rounds m n a b (c ∷ cs) some p q =

@@ -1,7 +1,7 @@
 -- Cards that meet the thresholds show one encrypted secret or one fault, and not both.
 use Rattle.std.proofs.Common.{◌≡◌, ℕ, ◌<◌, ◌≤◌, true, List, [], ◌∷◌, map, length, Some, Option, sym, refl, ap, ◌∙◌, subst, ap₂, inl, inr, arith}
 use lib.ListN.{length-map}
-use Rattle.std.specs.List.{AllByRecursion as All}
+use Rattle.std.specs.List.{AllByRecursion}
 use Rattle.std.proofs.ByRecursion.{All-map, All-weaker}
 use Rattle.std.proofs.lemmas.Bool.{cases_order}
 use Rattle.field.proofs.Lagrange.{In, here, of_in, all_in}
@@ -19,10 +19,10 @@ same_number i j a b = elim (cases_order i j) [ inl e ↦ e | inr (inl l) ↦ abs
 
 module _ (keyed : List ℕ → List ℕ → List ℕ) (laws : CurveLaws keyed) (cards : List Fields) (together : Together cards) (met : Met cards) where
   -- the values of all cards have one length
-  sized : (n : ℕ) × All (λ c. length c.value ≡ n) cards
+  sized : (n : ℕ) × AllByRecursion (λ c. length c.value ≡ n) cards
   sized = first cards met.0 (agree_of cards together)
     where
-      first : (cs : List Fields) → 1 ≤ length cs → ((a b : Fields) → In a cs → In b cs → Agree a b) → (n : ℕ) × All (λ c. length c.value ≡ n) cs
+      first : (cs : List Fields) → 1 ≤ length cs → ((a b : Fields) → In a cs → In b cs → Agree a b) → (n : ℕ) × AllByRecursion (λ c. length c.value ≡ n) cs
       first [] some agree = absurd (omega arith)
       first (c ∷ cs) some agree = (length c.value, all_in (λ d. length d.value ≡ length c.value) (c ∷ cs) (λ d m. (agree d c m here).value_length))
 
@@ -34,7 +34,7 @@ module _ (keyed : List ℕ → List ℕ → List ℕ) (laws : CurveLaws keyed) (
       a b value other c on d on').0
 
   -- what holds of every full row's secret, at the row's number
-  at_row : (P : ℕ → Type 0) (secrets : List Share) → map (λ s. s.x) secrets ≡ full_rows cards → All (λ s. P s.x) secrets → (i : ℕ) → i < 16 → is_full (row_of i cards) ≡ true → P i
+  at_row : (P : ℕ → Type 0) (secrets : List Share) → map (λ s. s.x) secrets ≡ full_rows cards → AllByRecursion (λ s. P s.x) secrets → (i : ℕ) → i < 16 → is_full (row_of i cards) ≡ true → P i
   at_row P secrets rows all i h full =
       of_in P i (map (λ s. s.x) secrets) (All-map P (λ s. s.x) secrets all) (subst (In i) (sym rows) (full_rows_in i cards h full))
 
@@ -45,11 +45,11 @@ module _ (keyed : List ℕ → List ℕ → List ℕ) (laws : CurveLaws keyed) (
 
   same_secrets : (a b : List Share) → RowSecrets keyed cards a → RowSecrets keyed cards b → a ≡ b
   same_secrets a b p q =
-      each a b (p.rows ∙ sym q.rows) (all_of_map (λ i. is_full (row_of i cards) ≡ true) (λ s. s.x) a (subst (All (λ i. is_full (row_of i cards) ≡ true)) (sym p.rows) (full_rows_full cards)))
+      each a b (p.rows ∙ sym q.rows) (all_of_map (λ i. is_full (row_of i cards) ≡ true) (λ s. s.x) a (subst (AllByRecursion (λ i. is_full (row_of i cards) ≡ true)) (sym p.rows) (full_rows_full cards)))
       p.fit q.fit
     where
-      each : (a b : List Share) → map (λ s. s.x) a ≡ map (λ s. s.x) b → All (λ s. is_full (row_of s.x cards) ≡ true) a
-          → All (λ s. RowFits keyed cards s.x s.value) a → All (λ s. RowFits keyed cards s.x s.value) b → a ≡ b
+      each : (a b : List Share) → map (λ s. s.x) a ≡ map (λ s. s.x) b → AllByRecursion (λ s. is_full (row_of s.x cards) ≡ true) a
+          → AllByRecursion (λ s. RowFits keyed cards s.x s.value) a → AllByRecursion (λ s. RowFits keyed cards s.x s.value) b → a ≡ b
       each [] [] e full p q = refl
       each [] (t ∷ b) e full p q = absurd (let z = ap length e in omega arith)
       each (s ∷ a) [] e full p q = absurd (let z = ap length e in omega arith)

@@ -1,7 +1,7 @@
 -- Cards that hold an encrypted secret were all dealt by some lawful deal of what it decrypts to.
 use Rattle.std.proofs.Common.{◌≡◌, ℕ, ◌+◌, ◌%◌, ◌<◌, ◌≤◌, Bool, true, cond, ◌&&◌, eqb, leb, ◌⊎◌, List, [], ◌∷◌, map, length, sym, refl, ap, ◌∙◌, subst, inl, inr, arith}
 use lib.ListN.{length-map}
-use Rattle.std.specs.List.{AllByRecursion as All}
+use Rattle.std.specs.List.{AllByRecursion}
 use Rattle.std.proofs.ByRecursion.{All-weaker, All-map}
 use Rattle.std.proofs.lemmas.Bool.{cond_both, cond-true, eq-eqb, le-leb, leb-true, and_from, cases_lt}
 use Rattle.field.proofs.Lagrange.{In, here, of_in, all_in}
@@ -77,7 +77,7 @@ module _ (keyed : List ℕ → List ℕ → List ℕ) (laws : CurveLaws keyed) (
   abbrev group_secret : ℕ → List ℕ
   group_secret = holds.group_secret
 
-  sized : All (λ c. length c.value ≡ n) cards
+  sized : AllByRecursion (λ c. length c.value ≡ n) cards
   sized = all_in (λ c. length c.value ≡ n) cards (λ c m. (agree_of cards together c card m here).value_length)
 
   lawful : Lawful card
@@ -90,7 +90,7 @@ module _ (keyed : List ℕ → List ℕ → List ℕ) (laws : CurveLaws keyed) (
       first (row_of i cards) some (all_row (λ c. c.member < 16) i cards (All-weaker Lawful (λ c. c.member < 16) (λ c l. l.member) cards together.lawful))
       (all_row (λ c. length c.value ≡ n) i cards sized) on
     where
-      first : (row : List Fields) → 1 ≤ length row → All (λ c. c.member < 16) row → All (λ c. length c.value ≡ n) row → On value (shares_of_row row) → length secret ≡ n
+      first : (row : List Fields) → 1 ≤ length row → AllByRecursion (λ c. c.member < 16) row → AllByRecursion (λ c. length c.value ≡ n) row → On value (shares_of_row row) → length secret ≡ n
       first [] some low long on = absurd (omega arith)
       first (d ∷ row) some low long on =
           let l = low.0 in
@@ -99,10 +99,10 @@ module _ (keyed : List ℕ → List ℕ → List ℕ) (laws : CurveLaws keyed) (
   abbrev group : GroupCurve keyed cards e group_secret
   group = holds.group_curve
 
-  secrets_full : All (λ s. (s.x < 16) × (is_full (row_of s.x cards) ≡ true)) group.secrets
+  secrets_full : AllByRecursion (λ s. (s.x < 16) × (is_full (row_of s.x cards) ≡ true)) group.secrets
   secrets_full =
       all_of_map (λ i. (i < 16) × (is_full (row_of i cards) ≡ true)) (λ s. s.x) group.secrets
-      (subst (All (λ i. (i < 16) × (is_full (row_of i cards) ≡ true))) (sym group.row_secrets.rows)
+      (subst (AllByRecursion (λ i. (i < 16) × (is_full (row_of i cards) ≡ true))) (sym group.row_secrets.rows)
       (all_join (λ i. i < 16) (λ i. is_full (row_of i cards) ≡ true) _ (λ i l f. (l, f)) (full_rows cards) (full_rows_low cards) (full_rows_full cards)))
 
   length-e : length e ≡ n
@@ -111,8 +111,8 @@ module _ (keyed : List ℕ → List ℕ → List ℕ) (laws : CurveLaws keyed) (
       enough : 1 ≤ length group.secrets
       enough = let a = secrets_enough keyed cards group.secrets group.row_secrets.rows met.1 in let b = lawful.group_threshold_least in omega arith
 
-      first : (secrets : List Share) → 1 ≤ length secrets → All (λ s. (s.x < 16) × (is_full (row_of s.x cards) ≡ true)) secrets
-          → All (λ s. RowFits keyed cards s.x s.value) secrets → On group_secret secrets → length e ≡ n
+      first : (secrets : List Share) → 1 ≤ length secrets → AllByRecursion (λ s. (s.x < 16) × (is_full (row_of s.x cards) ≡ true)) secrets
+          → AllByRecursion (λ s. RowFits keyed cards s.x s.value) secrets → On group_secret secrets → length e ≡ n
       first [] some full fit on = absurd (omega arith)
       first (s ∷ secrets) some full fit on =
           let l = full.0.0 in

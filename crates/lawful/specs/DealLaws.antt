@@ -1,7 +1,7 @@
 -- What every card that a lawful deal dealt is, and every encrypted secret.
 -- keyed is the keyed digest, and function the round function.
 use Rattle.std.specs.Prelude.{◌≡◌, ℕ, ◌+◌, ◌*◌, ◌<◌, Bool, List, map, length}
-use Rattle.std.specs.List.{AllByRecursion as All}
+use Rattle.std.specs.List.{AllByRecursion}
 use Rattle.field.specs.Interpolation.{Distinct}
 use Rattle.digest.specs.Keyed.{Bytes}
 use Rattle.cipher.specs.Feistel.{under, encrypted}
@@ -16,7 +16,7 @@ pub record DealLaws (keyed : List ℕ → List ℕ → List ℕ) (function : ℕ
   pub dealt_lawful : (passphrase m : List ℕ) (deal : LawfulDeal keyed function passphrase m) (card : Fields) → Dealt keyed function passphrase m deal card → Lawful card
   -- cards of one deal, no two at one place, can lie in one tray
   pub dealt_together : (passphrase m : List ℕ) (deal : LawfulDeal keyed function passphrase m) (cards : List Fields)
-      → All (Dealt keyed function passphrase m deal) cards → Distinct (map (λ c. 16 * c.group + c.member) cards) → Together cards
+      → AllByRecursion (Dealt keyed function passphrase m deal) cards → Distinct (map (λ c. 16 * c.group + c.member) cards) → Together cards
   -- and those at one place have one value
   pub dealt_once : (passphrase m : List ℕ) (deal : LawfulDeal keyed function passphrase m) (a b : Fields)
       → Dealt keyed function passphrase m deal a → Dealt keyed function passphrase m deal b → a.group ≡ b.group → a.member ≡ b.member → a.value ≡ b.value

@@ -1,7 +1,7 @@
 -- Lawful deals: how a master secret is dealt onto cards, and which cards a deal dealt.
 -- keyed is the keyed digest, and function the round function.
 use Rattle.std.specs.Prelude.{◌≡◌, ℕ, ◌<◌, ◌≤◌, Bool, true, List, length}
-use Rattle.std.specs.List.{AllByRecursion as All}
+use Rattle.std.specs.List.{AllByRecursion}
 use Rattle.digest.specs.Keyed.{Bytes}
 use Rattle.cipher.specs.Feistel.{under, encrypted, is_secret_length}
 use Rattle.sharing.specs.Curves.{Curve}
@@ -53,4 +53,4 @@ module _ (keyed : List ℕ → List ℕ → List ℕ) (function : ℕ → List �
 
   -- some lawful deal of m under the passphrase dealt all of these cards
   abbrev pub DealtBySome : List ℕ → List ℕ → List Fields → Type 0
-  DealtBySome passphrase m cards = (deal : LawfulDeal passphrase m) × All (Dealt passphrase m deal) cards
+  DealtBySome passphrase m cards = (deal : LawfulDeal passphrase m) × AllByRecursion (Dealt passphrase m deal) cards

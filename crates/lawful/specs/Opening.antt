@@ -1,7 +1,7 @@
 -- What cards that meet the thresholds show: the encrypted secret that they hold, or the fault that makes them contradictory.
 -- keyed is the keyed digest.
 use Rattle.std.specs.Prelude.{◌≡◌, ℕ, ◌<◌, Bool, true, List, ◌∷◌, map, Some, None, Option}
-use Rattle.std.specs.List.{AllByRecursion as All}
+use Rattle.std.specs.List.{AllByRecursion}
 use Rattle.digest.specs.Keyed.{Bytes}
 use Rattle.cipher.specs.Feistel.{under, decrypted}
 use Rattle.sharing.specs.Curves.{Share, Curve, On, OnCurve}
@@ -17,7 +17,7 @@ module _ (keyed : List ℕ → List ℕ → List ℕ) (cards : List Fields) wher
   -- the full rows' secrets, as shares at the rows' numbers
   pub record RowSecrets (secrets : List Share) : Type 0 where
     pub rows : map (λ s. s.x) secrets ≡ full_rows cards
-    pub fit : All (λ s. RowFits s.x s.value) secrets
+    pub fit : AllByRecursion (λ s. RowFits s.x s.value) secrets
 
   -- the full rows' secrets lie on this curve of the group threshold for the encrypted secret e
   pub record GroupCurve (e : List ℕ) (group_secret : ℕ → List ℕ) : Type 0 where

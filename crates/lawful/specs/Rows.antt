@@ -1,6 +1,6 @@
 -- Cards that lie together: their rows, one for each group, and whether the thresholds are met.
 use Rattle.std.specs.Prelude.{◌≡◌, ℕ, ◌+◌, ◌*◌, ◌≤◌, Bool, ◌&&◌, List, [], ◌∷◌, map, length, filter, ◌==◌, nat_eq, nat_le, nat_lt}
-use Rattle.std.specs.List.{range_with_len, AllByRecursion as All}
+use Rattle.std.specs.List.{range_with_len, AllByRecursion}
 use Rattle.field.specs.Interpolation.{Distinct}
 use Rattle.reader.specs.Card.{Fields}
 use Rattle.reader.specs.Writing.{Lawful}
@@ -56,6 +56,6 @@ pub record Agree (a b : Fields) : Type 0 where
 
 -- cards that can lie in one tray: no two at one place, and each two agree
 pub record Together (cards : List Fields) : Type 0 where
-  pub lawful : All Lawful cards
+  pub lawful : AllByRecursion Lawful cards
   pub places : Distinct (map (λ c. 16 * c.group + c.member) cards)
-  pub agree : All (λ a. All (Agree a) cards) cards
+  pub agree : AllByRecursion (λ a. AllByRecursion (Agree a) cards) cards

@@ -1,6 +1,6 @@
 -- A lexicon's words, and the index that bytes stand for.
 use Rattle.std.specs.Prelude.{◌≡◌, ℕ, ◌+◌, ◌<◌, ◌≤◌, Bool, true, false, cond, ◌&&◌, T, List, [], ◌∷◌, length, take, Some, None, Option, ◌==◌, slice_index_or}
-use Rattle.std.specs.List.{AllByRecursion as All}
+use Rattle.std.specs.List.{AllByRecursion}
 use Rattle.numbers.specs.declared.WordIndex.{WordIndex}
 use Rattle.lexicon.specs.declared.word.Word.{Word}
 use Rattle.lexicon.specs.Letters.{is_letter}
@@ -10,7 +10,7 @@ pub record Lawful (words : List (List ℕ)) : Type 0 where
   pub count : length words ≡ 1024
   pub least : (i : ℕ) → i < 1024 → 4 ≤ length (slice_index_or words i [])
   pub most : (i : ℕ) → i < 1024 → length (slice_index_or words i []) ≤ 8
-  pub letters : (i : ℕ) → i < 1024 → All (λ b. T (is_letter b)) (slice_index_or words i [])
+  pub letters : (i : ℕ) → i < 1024 → AllByRecursion (λ b. T (is_letter b)) (slice_index_or words i [])
   pub apart : (i j : ℕ) → i < 1024 → j < 1024 → take 4 (slice_index_or words i []) ≡ take 4 (slice_index_or words j []) → i ≡ j
 
 abbrev pub begins_with : List ℕ → List ℕ → Bool

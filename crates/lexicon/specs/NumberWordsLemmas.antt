@@ -3,7 +3,7 @@ use Rattle.std.specs.Prelude.{◌≡◌, ℕ, ◌+◌, ◌-◌, ◌*◌, ◌/◌
 use Rattle.std.proofs.Math.Path.{sym, ap, ap₂}
 use Rattle.std.proofs.Common.{subst, ◌∙◌, inl, inr}
 use native.Mathlib.Omega.{arith}
-use Rattle.std.specs.List.{AllByRecursion as All}
+use Rattle.std.specs.List.{AllByRecursion}
 use Rattle.std.proofs.lemmas.List.FromFn.{length-map-range_with_len, get_or-map-range_with_len}
 use Rattle.std.proofs.lemmas.Bool.{le-leb, or_right, and_from, cases_lt}
 use Rattle.std.proofs.lemmas.List.{take_all, take-take}
@@ -58,7 +58,7 @@ lawful =
       least = λ i h. let e : length (slice_index_or (numbered 1024) i []) ≡ 4 = ap length (numbered-at 1024 i h) in omega arith;
       most = λ i h. let e : length (slice_index_or (numbered 1024) i []) ≡ 4 = ap length (numbered-at 1024 i h) in omega arith;
       letters = λ i h.
-          subst (All (λ b. T (is_letter b))) (sym (numbered-at 1024 i h))
+          subst (AllByRecursion (λ b. T (is_letter b))) (sym (numbered-at 1024 i h))
           (letter (i / 1000) (omega arith), (letter (i / 100 % 10) (omega arith), (letter (i / 10 % 10) (omega arith), (letter (i % 10) (omega arith), tt))));
       apart = λ i j h k e.
           same_number i j (omega arith) (omega arith)

@@ -1,6 +1,6 @@
 -- A line that spells words is read as those words.
 use Rattle.std.proofs.Common.{◌≡◌, ℕ, ◌+◌, ◌<◌, ◌≤◌, Bool, true, false, ◌&&◌, T, eqb, leb, List, [], ◌∷◌, ◌++◌, map, length, get_or, take, Some, None, Ok, Err, sym, refl, ap, ◌∙◌, subst, ap₂, inl, inr, append_assoc, append-nil, le_refl, add-zero, arith}
-use Rattle.std.specs.List.{AllByRecursion as All}
+use Rattle.std.specs.List.{AllByRecursion}
 use Rattle.std.specs.Int.Digits.{AllBelowBase}
 use Rattle.std.proofs.ByRecursion.{All-take}
 use Rattle.std.proofs.lemmas.List.{take-take, take_all}
@@ -45,7 +45,7 @@ hash_class b t = ap class_of (eqb-true b 35 (truth (is_hash b) t))
 
 -- ---- a word and what follows it
 Letters : List ℕ → Type 0
-Letters w = All (λ b. T (is_letter b)) w
+Letters w = AllByRecursion (λ b. T (is_letter b)) w
 
 allowed : (i : ℕ) (w rest : List ℕ) → Letters w → first_forbidden i (w ++ rest) ≡ first_forbidden (i + length w) rest
 unfolding Letters
@@ -95,7 +95,7 @@ module _ (lexicon : List (List ℕ)) (ok : Lawful lexicon) where
   letters-of : (i : ℕ) (w : List ℕ) → i < 1024 → begins_with (get_or lexicon i []) w ≡ true → Letters w
   unfolding Letters
   letters-of i w h b =
-      subst (All (λ c. T (is_letter c))) (L.begins_take (get_or lexicon i []) w b) (All-take (λ c. T (is_letter c)) (length w) (get_or lexicon i []) (ok.letters i h))
+      subst (AllByRecursion (λ c. T (is_letter c))) (L.begins_take (get_or lexicon i []) w b) (All-take (λ c. T (is_letter c)) (length w) (get_or lexicon i []) (ok.letters i h))
 
   index-at : (o i : ℕ) (w : List ℕ) → i < 1024 → 4 ≤ length w → begins_with (get_or lexicon i []) w ≡ true → index_at lexicon o w ≡ Ok i
   index-at o i w h n b =

@@ -1,7 +1,7 @@
 -- How a card is written: its words, and their text.
 use Rattle.std.specs.Prelude.{◌≡◌, ℕ, zero, suc, ◌+◌, ◌-◌, ◌*◌, ◌/◌, ◌%◌, ◌^◌, ◌<◌, ◌≤◌, cond, ◌||◌, T, List, [], ◌∷◌, ◌++◌, map, length, drop, Ok, Err, Result, ◌==◌, nat_le, slice_index_or}
 use Rattle.std.specs.Int.Digits.{number_from_digits, AllBelowBase}
-use Rattle.std.specs.List.{AllByRecursion as All}
+use Rattle.std.specs.List.{AllByRecursion}
 use Rattle.refusal.specs.declared.layers.Layer.TheVariants as layer
 use Rattle.refusal.specs.declared.Refusal.{Refusal}
 use Rattle.refusal.specs.declared.Refusal.TheVariants.{SpaceTooShort}
@@ -63,7 +63,7 @@ text_of lexicon f = spell lexicon (words_of f)
 
 -- nothing but letters a to z, digits and spaces
 abbrev pub Plain : List ℕ → Type 0
-Plain text = All (λ b. T (is_letter b || b == 32)) text
+Plain text = AllByRecursion (λ b. T (is_letter b || b == 32)) text
 
 -- the answer to a call that writes a text into a space: the count written, or the bytes wanted
 abbrev pub count_or_refusal : List ℕ → List ℕ → Result ℕ Refusal

@@ -1,6 +1,6 @@
 -- The byte that the interpolation at one byte position gives.
 use Rattle.std.proofs.Common.{◌≡◌, ℕ, suc, ◌+◌, ◌*◌, ◌<◌, ◌≤◌, true, List, [], ◌∷◌, length, get_or, is_some, Some, None, Option, sym, ap, ◌∙◌, subst, ap₂, le_of_eq, mul-le-mul_right, suc-mul, arith, w8, Fits}
-use Rattle.std.specs.List.{AllByRecursion as All}
+use Rattle.std.specs.List.{AllByRecursion}
 use Rattle.field.specs.declared.gf256.Gf256.{Gf256}
 use Rattle.field.specs.declared.interpolation.point.Point.{Point}
 use Rattle.field.specs.Gf256.{element, sum, product, inverse}
@@ -15,7 +15,7 @@ pub bytes-typed : (xs : List ℕ) → ((i : ℕ) → Fits w8 (get_or xs i 0)) �
 bytes-typed [] h = tt
 bytes-typed (x ∷ xs) h = ((h 0).fits, bytes-typed xs (λ i. h (suc i)))
 
-all-bytes : (xs : List ℕ) → Bytes xs → All (λ x. x < 256) xs
+all-bytes : (xs : List ℕ) → Bytes xs → AllByRecursion (λ x. x < 256) xs
 all-bytes [] h = tt
 all-bytes (x ∷ xs) h = (h.0, all-bytes xs h.1)
 

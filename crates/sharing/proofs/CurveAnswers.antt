@@ -1,6 +1,6 @@
 -- The answers whether shares lie on a curve.
 use Rattle.std.proofs.Common.{◌≡◌, ℕ, zero, suc, ◌+◌, ◌-◌, ◌*◌, ◌<◌, ◌≤◌, Bool, true, false, List, [], ◌∷◌, length, take, drop, Decides, sym, refl, ap, ◌∙◌, subst, ap₂, mul-le-mul_right, suc-mul, add-mul, add_comm, zero-mul, arith, length-drop, length-take}
-use Rattle.std.specs.List.{AllByRecursion as All}
+use Rattle.std.specs.List.{AllByRecursion}
 use Rattle.std.proofs.lemmas.List.{drop-drop, take-take, drop-take}
 use Rattle.field.specs.Interpolation.{Distinct}
 use Rattle.sharing.specs.Curves.{Share, Shares, On, OnCurve}
@@ -59,7 +59,7 @@ distinct_take zero xs d = tt
 distinct_take (suc t) [] d = tt
 distinct_take (suc t) (x ∷ xs) d = (far-take t xs d.0, distinct_take t xs d.1)
   where
-    far-take : (t : ℕ) (xs : List ℕ) → All (λ y. y ≡ x → ⊥) xs → All (λ y. y ≡ x → ⊥) (take t xs)
+    far-take : (t : ℕ) (xs : List ℕ) → AllByRecursion (λ y. y ≡ x → ⊥) xs → AllByRecursion (λ y. y ≡ x → ⊥) (take t xs)
     far-take zero xs all = tt
     far-take (suc t) [] all = tt
     far-take (suc t) (y ∷ xs) all = (all.0, far-take t xs all.1)

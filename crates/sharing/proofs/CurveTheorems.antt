@@ -1,7 +1,7 @@
 -- What shares say of the curves through them.
 use Rattle.std.proofs.Common.{◌≡◌, ℕ, zero, suc, ◌+◌, ◌-◌, ◌*◌, ◌<◌, ◌≤◌, min, Bool, true, false, cond, leb, ◌⊎◌, List, [], ◌∷◌, ◌++◌, map, length, take, drop, replicate, sym, refl, ap, ◌∙◌, subst, ap₂, inl, inr, le_of_eq, arith, lit<, length-append, length-drop, length-take}
 use lib.ListN.{length-map, length-replicate}
-use Rattle.std.specs.List.{range_with_len, AllByRecursion as All}
+use Rattle.std.specs.List.{range_with_len, AllByRecursion}
 use Rattle.std.proofs.ByRecursion.{All-map, All-weaker, All-append, All-take, All-drop}
 use Rattle.std.proofs.lemmas.List.{take-append-drop, take_at, drop_at}
 use Rattle.std.proofs.lemmas.List.FromFn.{length-range_with_len}
@@ -18,11 +18,11 @@ use Rattle.sharing.proofs.FlatShares as Flat
 abbrev places : List Share → List ℕ
 places shares = map (λ s. s.x) shares
 
-meet : (f g : ℕ → List ℕ) (shares : List Share) → On f shares → On g shares → All (λ z. f z ≡ g z) (places shares)
+meet : (f g : ℕ → List ℕ) (shares : List Share) → On f shares → On g shares → AllByRecursion (λ z. f z ≡ g z) (places shares)
 meet f g [] a b = tt
 meet f g (s ∷ shares) a b = (a.0 ∙ sym b.0, meet f g shares a.1 b.1)
 
-small_places : (shares : List Share) → All (λ s. s.x < 256) shares → All (λ z. z < 256) (places shares)
+small_places : (shares : List Share) → AllByRecursion (λ s. s.x < 256) shares → AllByRecursion (λ z. z < 256) (places shares)
 small_places shares small = All-map (λ z. z < 256) (λ s. s.x) shares small
 
 pub bytes-append : (xs ys : List ℕ) → Bytes xs → Bytes ys → Bytes (xs ++ ys)
@@ -47,11 +47,11 @@ lt_leb_false : (a b : ℕ) → b < a → leb a b ≡ false
 lt_leb_false a b h = grind (arith, nat_tests)
 
 -- ---- numbers in a row
-pub all-counting-low : (m a k : ℕ) → a + k ≤ m → All (λ x. x < m) (range_with_len a k)
+pub all-counting-low : (m a k : ℕ) → a + k ≤ m → AllByRecursion (λ x. x < m) (range_with_len a k)
 all-counting-low m a zero h = tt
 all-counting-low m a (suc k) h = (omega arith, all-counting-low m (a + 1) k (omega arith))
 
-all-counting-above : (z a k : ℕ) → z < a → All (λ y. y ≡ z → ⊥) (range_with_len a k)
+all-counting-above : (z a k : ℕ) → z < a → AllByRecursion (λ y. y ≡ z → ⊥) (range_with_len a k)
 all-counting-above z a zero h = tt
 all-counting-above z a (suc k) h = ((λ e. omega arith), all-counting-above z (a + 1) k (omega arith))
 
@@ -59,7 +59,7 @@ pub distinct_counting : (a k : ℕ) → Distinct (range_with_len a k)
 distinct_counting a zero = tt
 distinct_counting a (suc k) = (all-counting-above a (a + 1) k (omega arith), distinct_counting (a + 1) k)
 
-pub distinct_ends : (xs : List ℕ) → Distinct xs → All (λ x. x < 254) xs → Distinct (xs ++ (254 ∷ 255 ∷ []))
+pub distinct_ends : (xs : List ℕ) → Distinct xs → AllByRecursion (λ x. x < 254) xs → Distinct (xs ++ (254 ∷ 255 ∷ []))
 distinct_ends [] d low = (((λ e. omega arith), tt), (tt, tt))
 distinct_ends (x ∷ xs) d low =
     let h = low.0 in
@@ -142,7 +142,7 @@ module _ (keyed : List ℕ → List ℕ → List ℕ) where
     places-ends (s ∷ shares) r secret = ap (λ l. s.x ∷ l) (places-ends shares r secret)
 
     sound_ends : (shares : List Share) (r secret : List ℕ) → Bytes secret → 4 ≤ length secret → Bytes r → length r ≡ length secret - 4
-        → Shares (length secret) shares → All (λ s. s.x < 254) shares → Shares (length secret) (with_ends shares r secret)
+        → Shares (length secret) shares → AllByRecursion (λ s. s.x < 254) shares → Shares (length secret) (with_ends shares r secret)
     unfolding with_ends
     sound_ends shares r secret hs h hr n sound low =
         record {
@@ -162,7 +162,7 @@ module _ (keyed : List ℕ → List ℕ → List ℕ) where
 
     -- the curve that shares, a key R and the secret fix
     fixed : (t : ℕ) (shares : List Share) (r secret : List ℕ) → Bytes secret → 4 ≤ length secret → Bytes r → length r ≡ length secret - 4
-        → Shares (length secret) shares → All (λ s. s.x < 254) shares → length shares + 2 ≤ t
+        → Shares (length secret) shares → AllByRecursion (λ s. s.x < 254) shares → length shares + 2 ≤ t
         → Curve keyed t secret (value_through (length secret) (with_ends shares r secret)) × On (value_through (length secret) (with_ends shares r secret)) shares
     unfolding with_ends
     fixed t shares r secret hs h hr n sound low few =
@@ -238,7 +238,7 @@ module _ (keyed : List ℕ → List ℕ → List ℕ) where
           bytes = All-take (λ s. Bytes s.value) t shares sound.bytes;
         }
       where
-        far-take : (z : ℕ) (k : ℕ) (l : List Share) → All (λ y. y ≡ z → ⊥) (places l) → All (λ y. y ≡ z → ⊥) (places (take k l))
+        far-take : (z : ℕ) (k : ℕ) (l : List Share) → AllByRecursion (λ y. y ≡ z → ⊥) (places l) → AllByRecursion (λ y. y ≡ z → ⊥) (places (take k l))
         far-take z zero l all = tt
         far-take z (suc k) [] all = tt
         far-take z (suc k) (s ∷ l) all = (all.0, far-take z k l all.1)
@@ -302,6 +302,6 @@ module _ (keyed : List ℕ → List ℕ → List ℕ) where
           sym s255,
         )
       where
-        all-join-on : (f g : ℕ → List ℕ) (l : List Share) → All (λ s. s.x < 256) l → On g l → ((x : ℕ) → x < 256 → f x ≡ g x) → On f l
+        all-join-on : (f g : ℕ → List ℕ) (l : List Share) → AllByRecursion (λ s. s.x < 256) l → On g l → ((x : ℕ) → x < 256 → f x ≡ g x) → On f l
         all-join-on f g [] small on is = tt
         all-join-on f g (s ∷ l) small on is = (is s.x small.0 ∙ on.0, all-join-on f g l small.1 on.1 is)

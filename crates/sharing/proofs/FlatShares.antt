@@ -1,6 +1,6 @@
 -- Shares whose values stand one after the other.
 use Rattle.std.proofs.Common.{◌≡◌, ℕ, zero, suc, ◌+◌, ◌*◌, ◌<◌, ◌≤◌, List, [], ◌∷◌, ◌++◌, map, length, get_or, take, drop, set, sym, refl, ap, ◌∙◌, subst, ap₂, suc-mul, add_comm, zero-mul, arith, length-drop, length-take}
-use Rattle.std.specs.List.{AllByRecursion as All}
+use Rattle.std.specs.List.{AllByRecursion}
 use Rattle.field.specs.Interpolation.{Distinct}
 use Rattle.digest.specs.Keyed.{Bytes}
 use Rattle.sharing.specs.Curves.{Share, Shares}
@@ -19,7 +19,7 @@ places_of : (n : ℕ) (xs values : List ℕ) → map (λ s. s.x) (shares_of n xs
 places_of n [] values = refl
 places_of n (x ∷ xs) values = ap (λ l. x ∷ l) (places_of n xs (drop n values))
 
-pub shares-places : (P : ℕ → Type 0) (n : ℕ) (xs values : List ℕ) → All P xs → All (λ s. P s.x) (shares_of n xs values)
+pub shares-places : (P : ℕ → Type 0) (n : ℕ) (xs values : List ℕ) → AllByRecursion P xs → AllByRecursion (λ s. P s.x) (shares_of n xs values)
 shares-places P n [] values all = tt
 shares-places P n (x ∷ xs) values all = (all.0, shares-places P n xs (drop n values) all.1)
 
@@ -33,17 +33,17 @@ bytes_drop zero xs h = h
 bytes_drop (suc n) [] h = tt
 bytes_drop (suc n) (x ∷ xs) h = bytes_drop n xs h.1
 
-shares-bytes : (n : ℕ) (xs values : List ℕ) → Bytes values → All (λ s. Bytes s.value) (shares_of n xs values)
+shares-bytes : (n : ℕ) (xs values : List ℕ) → Bytes values → AllByRecursion (λ s. Bytes s.value) (shares_of n xs values)
 shares-bytes n [] values h = tt
 shares-bytes n (x ∷ xs) values h = (bytes_take n values h, shares-bytes n xs (drop n values) (bytes_drop n values h))
 
-shares-lengths : (n : ℕ) (xs values : List ℕ) → length xs * n ≤ length values → All (λ s. length s.value ≡ n) (shares_of n xs values)
+shares-lengths : (n : ℕ) (xs values : List ℕ) → length xs * n ≤ length values → AllByRecursion (λ s. length s.value ≡ n) (shares_of n xs values)
 shares-lengths n [] values h = tt
 shares-lengths n (x ∷ xs) values h =
     let m : suc (length xs) * n ≡ length xs * n + n = suc-mul (length xs) n in
     (omega (arith, length-take n values), shares-lengths n xs (drop n values) (omega (arith, length-drop n values)))
 
-pub sound_shares : (n : ℕ) (xs values : List ℕ) → Distinct xs → All (λ x. x < 256) xs → Bytes values → length xs * n ≤ length values → Shares n (shares_of n xs values)
+pub sound_shares : (n : ℕ) (xs values : List ℕ) → Distinct xs → AllByRecursion (λ x. x < 256) xs → Bytes values → length xs * n ≤ length values → Shares n (shares_of n xs values)
 sound_shares n xs values d small bytes h =
     record {
       distinct = subst Distinct (sym (places_of n xs values)) d;

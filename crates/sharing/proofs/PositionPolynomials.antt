@@ -2,7 +2,7 @@
 use Rattle.std.proofs.Common.{◌≡◌, ℕ, zero, suc, ◌+◌, ◌-◌, ◌%◌, ◌<◌, ◌≤◌, List, [], ◌∷◌, map, length, get_or, sym, refl, ap, ◌∙◌, subst, ap₂, arith}
 use native.Mathlib.Nat.{suc_inj}
 use lib.ListN.{length-map}
-use Rattle.std.specs.List.{range_with_len, AllByRecursion as All}
+use Rattle.std.specs.List.{range_with_len, AllByRecursion}
 use Rattle.std.proofs.ByRecursion.{All-map, All-weaker}
 use Rattle.std.proofs.lemmas.List.FromFn.{length-range_with_len, fill_by_all}
 use Rattle.field.specs.declared.gf256.Gf256.{Gf256}
@@ -19,7 +19,7 @@ use Rattle.sharing.specs.Curves.{byte_at, Polynomials, Share, Shares, On}
 use Rattle.sharing.specs.Values.{points_at, byte_through, value_through}
 
 -- ---- lists
-all_of_map : {A B : Type 0} (P : B → Type 0) (f : A → B) (xs : List A) → All P (map f xs) → All (λ a. P (f a)) xs
+all_of_map : {A B : Type 0} (P : B → Type 0) (f : A → B) (xs : List A) → AllByRecursion P (map f xs) → AllByRecursion (λ a. P (f a)) xs
 all_of_map P f [] all = tt
 all_of_map P f (x ∷ xs) all = (all.0, all_of_map P f xs all.1)
 
@@ -31,11 +31,11 @@ map-map f g (x ∷ xs) = ap (λ l. g (f x) ∷ l) (map-map f g xs)
 apart : (a b : ℕ) → a < 256 → b < 256 → element a ≡ element b → a ≡ b
 apart a b ha hb e = let q : a % 256 ≡ b % 256 = ap (λ p. p.value) e in omega arith
 
-far : (z : ℕ) (zs : List ℕ) → z < 256 → All (λ y. y < 256) zs → All (λ y. y ≡ z → ⊥) zs → All (λ w. w ≡ element z → ⊥) (map element zs)
+far : (z : ℕ) (zs : List ℕ) → z < 256 → AllByRecursion (λ y. y < 256) zs → AllByRecursion (λ y. y ≡ z → ⊥) zs → AllByRecursion (λ w. w ≡ element z → ⊥) (map element zs)
 far z [] hz small all = tt
 far z (y ∷ ys) hz small all = ((λ e. all.0 (apart y z small.0 hz e)), far z ys hz small.1 all.1)
 
-pub distinct_elements : (zs : List ℕ) → All (λ z. z < 256) zs → Distinct zs → Distinct (map element zs)
+pub distinct_elements : (zs : List ℕ) → AllByRecursion (λ z. z < 256) zs → Distinct zs → Distinct (map element zs)
 distinct_elements [] small d = tt
 distinct_elements (z ∷ zs) small d = (far z zs small.0 small.1 d.0, distinct_elements zs small.1 d.1)
 
@@ -43,8 +43,8 @@ distinct_elements (z ∷ zs) small d = (far z zs small.0 small.1 d.0, distinct_e
 abbrev at : Gf256 → List Gf256 → Gf256
 at = value_at (element 0) (element 1) sum product
 
-columns_same : (t : ℕ) (zs : List ℕ) → t ≤ length zs → All (λ z. z < 256) zs → Distinct zs → (a b : List (List Gf256)) → length a ≡ length b
-    → All (λ cs. length cs ≡ t) a → All (λ cs. length cs ≡ t) b → All (λ z. map (byte_at z) a ≡ map (byte_at z) b) zs → a ≡ b
+columns_same : (t : ℕ) (zs : List ℕ) → t ≤ length zs → AllByRecursion (λ z. z < 256) zs → Distinct zs → (a b : List (List Gf256)) → length a ≡ length b
+    → AllByRecursion (λ cs. length cs ≡ t) a → AllByRecursion (λ cs. length cs ≡ t) b → AllByRecursion (λ z. map (byte_at z) a ≡ map (byte_at z) b) zs → a ≡ b
 columns_same t zs h small d [] [] n p q e = refl
 columns_same t zs h small d [] (c ∷ b) n p q e = absurd (omega arith)
 columns_same t zs h small d (c ∷ a) [] n p q e = absurd (omega arith)
@@ -55,12 +55,12 @@ columns_same t zs h small d (c ∷ a) (k ∷ b) n p q e =
     (All-map (λ w. at w c ≡ at w k) element zs (All-weaker _ (λ z. at (element z) c ≡ at (element z) k) (λ z l. same _ _ (cc)) zs e)))
     (columns_same t zs h small d a b (suc_inj n) p.1 q.1 (All-weaker _ (λ z. map (byte_at z) a ≡ map (byte_at z) b) (λ z l. cc) zs e))
 
-all_join : {A : Type 0} (P Q R : A → Type 0) → ((x : A) → P x → Q x → R x) → (xs : List A) → All P xs → All Q xs → All R xs
+all_join : {A : Type 0} (P Q R : A → Type 0) → ((x : A) → P x → Q x → R x) → (xs : List A) → AllByRecursion P xs → AllByRecursion Q xs → AllByRecursion R xs
 all_join P Q R f [] p q = tt
 all_join P Q R f (x ∷ xs) p q = (f x p.0 q.0, all_join P Q R f xs p.1 q.1)
 
-pub agree : (n t : ℕ) (f g : ℕ → List ℕ) (zs : List ℕ) → Polynomials n t f → Polynomials n t g → t ≤ length zs → All (λ z. z < 256) zs → Distinct zs
-    → All (λ z. f z ≡ g z) zs → (x : ℕ) → x < 256 → f x ≡ g x
+pub agree : (n t : ℕ) (f g : ℕ → List ℕ) (zs : List ℕ) → Polynomials n t f → Polynomials n t g → t ≤ length zs → AllByRecursion (λ z. z < 256) zs → Distinct zs
+    → AllByRecursion (λ z. f z ≡ g z) zs → (x : ℕ) → x < 256 → f x ≡ g x
 agree n t f g zs p q h small d e x hx =
     let same-columns = columns_same t zs h small d p.coefficients q.coefficients (p.positions ∙ sym q.positions) p.degrees q.degrees
     (all_join (λ z. f z ≡ g z) (λ z. z < 256) (λ z. map (byte_at z) p.coefficients ≡ map (byte_at z) q.coefficients)
@@ -96,7 +96,7 @@ unfolding pad
 length-pad zero cs = omega arith
 length-pad (suc m) cs = let e : length (pad m cs) ≡ m + length cs = length-pad m cs in omega arith
 
-pad_degrees : (m k t : ℕ) → m + k ≡ t → (css : List (List Gf256)) → All (λ cs. length cs ≡ k) css → All (λ cs. length cs ≡ t) (map (pad m) css)
+pad_degrees : (m k t : ℕ) → m + k ≡ t → (css : List (List Gf256)) → AllByRecursion (λ cs. length cs ≡ k) css → AllByRecursion (λ cs. length cs ≡ t) (map (pad m) css)
 pad_degrees m k t e [] all = tt
 pad_degrees m k t e (cs ∷ css) all = (length-pad m cs ∙ ap (λ n. m + n) all.0 ∙ e, pad_degrees m k t e css all.1)
 
@@ -122,7 +122,7 @@ single_bytes : (x : ℕ) (s : List ℕ) → Bytes s → s ≡ map (byte_at x) (m
 single_bytes x [] h = refl
 single_bytes x (b ∷ s) h = ap₂ ◌∷◌ (sym (ap (λ y. y.value) (single (element x) (element b)) ∙ value-element b h.0)) (single_bytes x s h.1)
 
-one_each : (s : List ℕ) → All (λ (cs : List Gf256). length cs ≡ 1) (map (λ b. element b ∷ []) s)
+one_each : (s : List ℕ) → AllByRecursion (λ (cs : List Gf256). length cs ≡ 1) (map (λ b. element b ∷ []) s)
 one_each [] = tt
 one_each (b ∷ s) = (refl, one_each s)
 
@@ -135,7 +135,7 @@ constant_polynomials s f h same-all =
       values = λ x hx. same-all x hx ∙ single_bytes x s h;
     }
 
-steady_columns : (x y : ℕ) (css : List (List Gf256)) → All (λ cs. length cs ≡ 1) css → map (byte_at x) css ≡ map (byte_at y) css
+steady_columns : (x y : ℕ) (css : List (List Gf256)) → AllByRecursion (λ cs. length cs ≡ 1) css → map (byte_at x) css ≡ map (byte_at y) css
 steady_columns x y [] all = refl
 steady_columns x y ([] ∷ css) all = absurd (omega (arith, all.0))
 steady_columns x y ((c ∷ []) ∷ css) all = ap₂ ◌∷◌ (ap (λ v. v.value) (single (element x) c ∙ sym (single (element y) c))) (steady_columns x y css all.1)
@@ -165,7 +165,7 @@ module _ (n : ℕ) (shares : List Share) (sound : Shares n shares) where
   column_degree : (j : ℕ) → length (column j).0 ≡ length shares
   column_degree j = (column j).1.degree ∙ length-map shares (λ s. record { x = element s.x; y = element (get_or s.value j 0) })
 
-  all-degrees : (js : List ℕ) → All (λ cs. length cs ≡ length shares) (map (λ j. (column j).0) js)
+  all-degrees : (js : List ℕ) → AllByRecursion (λ cs. length cs ≡ length shares) (map (λ j. (column j).0) js)
   all-degrees [] = tt
   all-degrees (j ∷ js) = (column_degree j, all-degrees js)
 

@@ -1,6 +1,6 @@
 -- Curves: how a secret is shared out over the values at the places 0 to 255, and what some of the values say of it.
 use Rattle.std.specs.Prelude.{◌≡◌, ℕ, ◌+◌, ◌-◌, ◌<◌, ◌≤◌, List, ◌++◌, map, length, take, ◌≢◌}
-use Rattle.std.specs.List.{AllByRecursion as All}
+use Rattle.std.specs.List.{AllByRecursion}
 use Rattle.field.specs.declared.gf256.Gf256.{Gf256}
 use Rattle.field.specs.Gf256.{element, sum, product}
 use Rattle.field.specs.Polynomial.{value_at}
@@ -15,7 +15,7 @@ byte_at x coefficients = (value_at (element 0) (element 1) sum product (element 
 pub record Polynomials (n t : ℕ) (value : ℕ → List ℕ) : Type 0 where
   pub coefficients : List (List Gf256)
   pub positions : length coefficients ≡ n
-  pub degrees : All (λ cs. length cs ≡ t) coefficients
+  pub degrees : AllByRecursion (λ cs. length cs ≡ t) coefficients
   pub values : (x : ℕ) → x < 256 → value x ≡ map (byte_at x) coefficients
 
 -- value is a curve of threshold t for the secret, over a keyed digest
@@ -39,13 +39,13 @@ pub record Share : Type 0 where
 -- shares at distinct places below 256, with values of n bytes
 pub record Shares (n : ℕ) (shares : List Share) : Type 0 where
   pub distinct : Distinct (map (λ s. s.x) shares)
-  pub places : All (λ s. s.x < 256) shares
-  pub lengths : All (λ s. length s.value ≡ n) shares
-  pub bytes : All (λ s. Bytes s.value) shares
+  pub places : AllByRecursion (λ s. s.x < 256) shares
+  pub lengths : AllByRecursion (λ s. length s.value ≡ n) shares
+  pub bytes : AllByRecursion (λ s. Bytes s.value) shares
 
 -- each share has the value at its place
 abbrev pub On : (ℕ → List ℕ) → List Share → Type 0
-On value shares = All (λ s. value s.x ≡ s.value) shares
+On value shares = AllByRecursion (λ s. value s.x ≡ s.value) shares
 
 -- some curve of threshold t for the secret goes through the shares
 abbrev pub OnCurve : (List ℕ → List ℕ → List ℕ) → ℕ → List ℕ → List Share → Type 0
@@ -62,7 +62,7 @@ OneCurve keyed =
 -- a secret and t - 1 shares or more at other places than 255 lie on at most one curve of threshold t
 abbrev pub OneCurveOfSecret : (List ℕ → List ℕ → List ℕ) → Type 0
 OneCurveOfSecret keyed =
-    (t n : ℕ) (shares : List Share) → Shares n shares → All (λ s. s.x ≢ 255) shares → t ≤ length shares + 1
+    (t n : ℕ) (shares : List Share) → Shares n shares → AllByRecursion (λ s. s.x ≢ 255) shares → t ≤ length shares + 1
     → (secret : List ℕ) (value other : ℕ → List ℕ) → Curve keyed t secret value → On value shares → Curve keyed t secret other → On other shares
     → (x : ℕ) → x < 256 → value x ≡ other x
 
@@ -70,7 +70,7 @@ OneCurveOfSecret keyed =
 abbrev pub SomeCurve : (List ℕ → List ℕ → List ℕ) → Type 0
 SomeCurve keyed =
     (t : ℕ) (secret : List ℕ) (shares : List Share) → Bytes secret → 4 ≤ length secret → Shares (length secret) shares
-    → All (λ s. s.x < 254) shares → length shares + 2 ≤ t → OnCurve keyed t secret shares
+    → AllByRecursion (λ s. s.x < 254) shares → length shares + 2 ≤ t → OnCurve keyed t secret shares
 
 pub record CurveLaws (keyed : List ℕ → List ℕ → List ℕ) : Type 0 where
   pub one_curve : OneCurve keyed
