@@ -50,7 +50,7 @@ scheduled-drop k t w h =
     let e16 : get_or (drop k w) (t - 16) 0 ≡ get_or w (k + t - 16) 0 = get_or-drop k w (t - 16) 0 ∙ ap (λ x. get_or w x 0) (omega arith) in
     rw (e2, e7, e15, e16)
 
--- the schedule without its first sixteen wordsOf is the schedule of the next sixteen
+-- the schedule without its first sixteen words is the schedule of the next sixteen
 schedule-drop : (n : ℕ) (b : List ℕ) → length b ≡ 16 → drop 16 (schedule (16 + n) b) ≡ schedule n (drop 16 (schedule 16 b))
 unfolding schedule
 schedule-drop zero b h = refl

@@ -6,7 +6,7 @@ use Rattle.reader.specs.Card.{Fields}
 use Rattle.sharing.specs.Curves.{CurveLaws}
 use Rattle.lawful.specs.LawfulDeal.{DealtBySome}
 use Rattle.lawful.specs.Rows.{row_of, threshold_of, lacks_one, group_threshold_of, Met, Together}
-use Rattle.lawful.specs.Opening.{RowFits, GroupCurve, Fault, row-off, groups_off, near_row_off}
+use Rattle.lawful.specs.Opening.{RowFits, GroupCurve, Fault, row_off, groups_off, near_row_off}
 use Rattle.lawful.proofs.RowShares.{full_some}
 use Rattle.lawful.proofs.DealtRows.{row_fits, dealt_group_curve, secrets_on, dealt_secrets_sound, secrets_enough}
 
@@ -29,7 +29,7 @@ module _ (keyed : List ℕ → List ℕ → List ℕ) (laws : CurveLaws keyed) (
       (secrets_on keyed laws function passphrase m deal cards together dealt secrets curve.row_secrets)
 
   pub no_deal : (row : Option ℕ) → Fault keyed cards row → (m : List ℕ) → DealtBySome keyed function passphrase m cards → ⊥
-  no_deal _ (row-off i h full off before) m (deal, dealt) =
+  no_deal _ (row_off i h full off before) m (deal, dealt) =
       off (deal.group_secret i) (row_fits keyed laws function passphrase m deal cards together dealt i (full_some (row_of i cards) full))
   no_deal _ (groups_off secrets is off) m (deal, dealt) =
       off _ (

@@ -8,7 +8,7 @@ use Rattle.field.proofs.Lagrange.{In, here, of_in, all_in}
 use Rattle.reader.specs.Card.{Fields}
 use Rattle.sharing.specs.Curves.{Share, On, OnCurve, CurveLaws}
 use Rattle.lawful.specs.Rows.{row_of, threshold_of, is_full, full_rows, group_threshold_of, shares_of_row, Met, Agree, Together}
-use Rattle.lawful.specs.Opening.{RowFits, RowSecrets, GroupCurve, NearRowFits, Holds, Fault, row-off, groups_off, near_row_off}
+use Rattle.lawful.specs.Opening.{RowFits, RowSecrets, GroupCurve, NearRowFits, Holds, Fault, row_off, groups_off, near_row_off}
 use Rattle.lawful.proofs.Lists.{all_of_map}
 use Rattle.lawful.proofs.RowShares.{full_enough, full_rows_full, full_rows_in, row-shares, agree_of}
 use Rattle.lawful.proofs.DealtRows.{secrets_sound, secrets_enough}
@@ -81,19 +81,19 @@ module _ (keyed : List ℕ → List ℕ → List ℕ) (laws : CurveLaws keyed) (
   near_fits e f group_secret other p q i h fits lacks = subst (RowFits keyed cards i) ((one-group-curve e f group_secret other p q).1 i (omega arith)) (fits lacks)
 
   pub not_both : (e : List ℕ) → Holds keyed cards e → (row : Option ℕ) → Fault keyed cards row → ⊥
-  not_both e p _ (row-off i h full off before) = let r = row-fits-some p.group_curve.secrets p.group_curve.row_secrets i h full in off r.0 r.1
+  not_both e p _ (row_off i h full off before) = let r = row-fits-some p.group_curve.secrets p.group_curve.row_secrets i h full in off r.0 r.1
   not_both e p _ (groups_off secrets is off) = off e (group-fits secrets is e p.group_secret p.group_curve)
   not_both e p _ (near_row_off i h f other q lacks off before) = off (near_fits e f p.group_secret other p.group_curve q i h (p.near_rows i h) lacks)
 
   pub one_fault : (row other : Option ℕ) → Fault keyed cards row → Fault keyed cards other → row ≡ other
-  one_fault _ _ (row-off i h full off before) (row-off j k full' off' before') =
+  one_fault _ _ (row_off i h full off before) (row_off j k full' off' before') =
       ap Some (same_number i j (λ l. let r = before' i l full in off r.0 r.1) (λ l. let r = before j l full' in off' r.0 r.1))
-  one_fault _ _ (row-off i h full off before) (groups_off secrets is off') = let r = row-fits-some secrets is i h full in absurd (off r.0 r.1)
-  one_fault _ _ (row-off i h full off before) (near_row_off j k e f p lacks off' before') = let r = row-fits-some p.secrets p.row_secrets i h full in absurd (off r.0 r.1)
-  one_fault _ _ (groups_off secrets is off) (row-off j k full off' before') = let r = row-fits-some secrets is j k full in absurd (off' r.0 r.1)
+  one_fault _ _ (row_off i h full off before) (groups_off secrets is off') = let r = row-fits-some secrets is i h full in absurd (off r.0 r.1)
+  one_fault _ _ (row_off i h full off before) (near_row_off j k e f p lacks off' before') = let r = row-fits-some p.secrets p.row_secrets i h full in absurd (off r.0 r.1)
+  one_fault _ _ (groups_off secrets is off) (row_off j k full off' before') = let r = row-fits-some secrets is j k full in absurd (off' r.0 r.1)
   one_fault _ _ (groups_off secrets is off) (groups_off secrets' is' off') = refl
   one_fault _ _ (groups_off secrets is off) (near_row_off j k e f p lacks off' before') = absurd (off e (group-fits secrets is e f p))
-  one_fault _ _ (near_row_off i h e f p lacks off before) (row-off j k full off' before') = let r = row-fits-some p.secrets p.row_secrets j k full in absurd (off' r.0 r.1)
+  one_fault _ _ (near_row_off i h e f p lacks off before) (row_off j k full off' before') = let r = row-fits-some p.secrets p.row_secrets j k full in absurd (off' r.0 r.1)
   one_fault _ _ (near_row_off i h e f p lacks off before) (groups_off secrets is off') = absurd (off' e (group-fits secrets is e f p))
   one_fault _ _ (near_row_off i h e f p lacks off before) (near_row_off j k e' f' q lacks' off' before') =
       ap Some (same_number i j (λ l. off (near_fits e' e f' f q p i h (before' i l) lacks)) (λ l. off' (near_fits e e' f f' p q j k (before j l) lacks')))

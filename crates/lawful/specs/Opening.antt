@@ -39,7 +39,7 @@ module _ (keyed : List ℕ → List ℕ → List ℕ) (cards : List Fields) wher
   -- the fault that is named: the lowest full row whose cards lie on no curve of its threshold; else none of the rows, if the full
   -- rows' secrets lie on no curve of the group threshold; else the lowest row that lacks one card and does not fit its group secret
   pub data Fault : Option ℕ → Type 0 where
-    row-off : (i : ℕ) → i < 16 → is_full (row_of i cards) ≡ true → ((secret : List ℕ) → RowFits i secret → ⊥)
+    row_off : (i : ℕ) → i < 16 → is_full (row_of i cards) ≡ true → ((secret : List ℕ) → RowFits i secret → ⊥)
         → ((j : ℕ) → j < i → is_full (row_of j cards) ≡ true → (secret : List ℕ) × RowFits j secret)
         → Fault (Some i)
     groups_off : (secrets : List Share) → RowSecrets secrets → ((e : List ℕ) → OnCurve keyed (group_threshold_of cards) e secrets → ⊥) → Fault None
