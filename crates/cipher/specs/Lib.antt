@@ -7,6 +7,7 @@ pub mod Drill
 pub mod Feistel
 pub mod Stretching
 pub mod Exports
-pub mod DrillBytes
+-- Lemmas that the laws of this crate's impls are proved by: no contract cites them, and nobody has to believe them.
 pub mod Blocks
 pub mod ByteLists
+pub mod DrillBytes

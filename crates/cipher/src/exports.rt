@@ -23,7 +23,7 @@ fn apply_to_numbers<F: RoundFunction>(
     out: &mut [u8],
 ) -> bool
     ensures answer { result ≡ applies round passphrase.now identifier exponent half.now out.old }
-    ensures writes { out.new ≡ (if result then F.RoundFunction.function round passphrase.now identifier extendable exponent half.now ++ drop (length half.now) out.old else out.old) }
+    ensures writes { out.new ≡ (if result then F.function round passphrase.now identifier extendable exponent half.now ++ drop (length half.now) out.old else out.old) }
 {
     let Some(round) = RoundNumber::new(round) else {
         return false;

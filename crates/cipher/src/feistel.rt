@@ -34,7 +34,7 @@ impl<F: RoundFunction> Setting<'_, '_, F> {
     fn turn(&self, round: RoundNumber, secret: &mut [u8], mask: &mut [u8])
         requires lawful { passphrase_answer self.now.passphrase.now ≡ Ok tt }
         requires room { (8 ≤ length mask.old) × (length mask.old ≤ 32) × (length mask.old + length mask.old ≡ length secret.old) }
-        ensures { halved secret.new ≡ turned (under F.RoundFunction.function self.now.passphrase.now self.now.identifier.value self.now.extendable self.now.exponent.value round.value) (halved secret.old) }
+        ensures { halved secret.new ≡ turned (under F.function self.now.passphrase.now self.now.identifier.value self.now.extendable self.now.exponent.value round.value) (halved secret.old) }
     {
         let half = mask.len();
         let length = secret.len();
@@ -65,7 +65,7 @@ impl<F: RoundFunction> Setting<'_, '_, F> {
         requires lawful { passphrase_answer self.now.passphrase.now ≡ Ok tt }
         requires fits { is_secret_length (length secret.old) ≡ true }
         requires room { length work.old ≡ length secret.old / 2 }
-        ensures writes { secret.new ≡ network (under F.RoundFunction.function self.now.passphrase.now self.now.identifier.value self.now.extendable self.now.exponent.value) first.value second.value third.value fourth.value secret.old }
+        ensures writes { secret.new ≡ network (under F.function self.now.passphrase.now self.now.identifier.value self.now.extendable self.now.exponent.value) first.value second.value third.value fourth.value secret.old }
         ensures wiped { work.new ≡ replicate (length work.old) 0 }
     {
         let half = secret.len() / 2;
@@ -100,8 +100,8 @@ pub fn encrypt<F: RoundFunction>(
     secret: &mut [u8],
 ) -> Result<usize, Refusal>
     ensures answer { result ≡ cipher_answer passphrase.now secret.old }
-    ensures writes { secret.new ≡ replaced result (encrypted (under F.RoundFunction.function passphrase.now identifier.value extendable exponent.value) secret.old) secret.old }
-    ensures undone { Undone (under F.RoundFunction.function passphrase.now identifier.value extendable exponent.value) }
+    ensures writes { secret.new ≡ replaced result (encrypted (under F.function passphrase.now identifier.value extendable exponent.value) secret.old) secret.old }
+    ensures undone { Undone (under F.function passphrase.now identifier.value extendable exponent.value) }
 {
     let length = check_secret(passphrase, secret)?;
     let setting = Setting {
@@ -128,8 +128,8 @@ pub fn decrypt<F: RoundFunction>(
     secret: &mut [u8],
 ) -> Result<usize, Refusal>
     ensures answer { result ≡ cipher_answer passphrase.now secret.old }
-    ensures writes { secret.new ≡ replaced result (decrypted (under F.RoundFunction.function passphrase.now identifier.value extendable exponent.value) secret.old) secret.old }
-    ensures undone { Undone (under F.RoundFunction.function passphrase.now identifier.value extendable exponent.value) }
+    ensures writes { secret.new ≡ replaced result (decrypted (under F.function passphrase.now identifier.value extendable exponent.value) secret.old) secret.old }
+    ensures undone { Undone (under F.function passphrase.now identifier.value extendable exponent.value) }
 {
     let length = check_secret(passphrase, secret)?;
     let setting = Setting {

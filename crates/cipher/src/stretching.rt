@@ -67,8 +67,8 @@ fn combine<D: KeyedDigest>(
     total: &mut [u8],
 )
     requires fits { (length password.now ≤ 65536) × (length text.now ≤ 65536) × (1 ≤ count) }
-    requires room { (length link.old ≡ D.KeyedDigest.size) × (length total.old ≡ D.KeyedDigest.size) }
-    ensures { total.new ≡ combined (D.KeyedDigest.keyed password.now) text.now count }
+    requires room { (length link.old ≡ D.size) × (length total.old ≡ D.size) }
+    ensures { total.new ≡ combined (D.keyed password.now) text.now count }
 {
     // The input is short and the spaces are as long as a digest, so nothing is refused.
     let _ = digest.digest(password, text, link);
@@ -87,8 +87,8 @@ fn write_block<D: KeyedDigest>(
     total: &mut [u8],
 )
     requires fits { (length password.now ≤ 65536) × (4 ≤ length text.old) × (length text.old ≤ 65536) × (1 ≤ count) }
-    requires room { (length link.old ≡ D.KeyedDigest.size) × (length total.old ≡ D.KeyedDigest.size) }
-    ensures gives { total.new ≡ combined (D.KeyedDigest.keyed password.now) (take (length text.old - 4) text.old ++ int number) count }
+    requires room { (length link.old ≡ D.size) × (length total.old ≡ D.size) }
+    ensures gives { total.new ≡ combined (D.keyed password.now) (take (length text.old - 4) text.old ++ int number) count }
     ensures keeps { take (length text.old - 4) text.new ≡ take (length text.old - 4) text.old }
 {
     let end = text.len();
@@ -107,8 +107,8 @@ fn write_blocks<D: KeyedDigest>(
     out: &mut [u8],
 )
     requires fits { (length password.now ≤ 65536) × (4 ≤ length text.old) × (length text.old ≤ 65536) × (1 ≤ count) × (length out.old ≤ 65536) }
-    requires room { (length link.old ≡ D.KeyedDigest.size) × (length total.old ≡ D.KeyedDigest.size) }
-    ensures { out.new ≡ pbkdf2 D.KeyedDigest.keyed D.KeyedDigest.size password.now (take (length text.old - 4) text.old) count (length out.old) }
+    requires room { (length link.old ≡ D.size) × (length total.old ≡ D.size) }
+    ensures { out.new ≡ pbkdf2 D.keyed D.size password.now (take (length text.old - 4) text.old) count (length out.old) }
 {
     let size = digest.length();
     let length = out.len();
@@ -132,8 +132,8 @@ fn derive<D: KeyedDigest>(
     out: &mut [u8],
 )
     requires fits { (length password.now ≤ 65536) × (4 ≤ length text.old) × (length text.old ≤ 65536) × (1 ≤ count) × (length out.old ≤ 65536) }
-    requires room { (length link.old ≡ D.KeyedDigest.size) × (length total.old ≡ D.KeyedDigest.size) }
-    ensures writes { out.new ≡ pbkdf2 D.KeyedDigest.keyed D.KeyedDigest.size password.now (take (length text.old - 4) text.old) count (length out.old) }
+    requires room { (length link.old ≡ D.size) × (length total.old ≡ D.size) }
+    ensures writes { out.new ≡ pbkdf2 D.keyed D.size password.now (take (length text.old - 4) text.old) count (length out.old) }
     ensures wiped { (link.new ≡ replicate (length link.old) 0) × (total.new ≡ replicate (length total.old) 0) }
 {
     let last = Wiped { bytes: link };
@@ -172,7 +172,7 @@ impl<D: KeyedDigest> Stretching<D> {
     )
         requires fits { (length passphrase.now ≤ 100) × (length half.now ≤ 32) × (length out.old ≡ length half.now) }
         requires room { (length password.old ≡ 101) × (length text.old ≡ 44) }
-        ensures writes { out.new ≡ stretched D.KeyedDigest.keyed D.KeyedDigest.size round.value passphrase.now identifier.value extendable exponent.value half.now }
+        ensures writes { out.new ≡ stretched D.keyed D.size round.value passphrase.now identifier.value extendable exponent.value half.now }
         ensures wiped { (password.new ≡ replicate (length password.old) 0) × (text.new ≡ replicate (length text.old) 0) }
     {
         let size = self.digest.length();
@@ -195,7 +195,7 @@ impl<D: KeyedDigest> Stretching<D> {
 }
 
 impl<D: KeyedDigest> RoundFunction for Stretching<D> {
-    ghost function = { stretched D.KeyedDigest.keyed D.KeyedDigest.size };
+    ghost function = { stretched D.keyed D.size };
 
     ghost sized = { λ number phrase id flag e part h k.
         let D' = D.KeyedDigest in

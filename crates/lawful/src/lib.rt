@@ -10,6 +10,6 @@ use digest::KeyedDigest;
 /// Cards that meet the thresholds were dealt by a lawful deal of one secret or by none, and what the cards show says which; and
 /// every card that a deal dealt can be written. It computes nothing.
 pub fn deal_laws<D: KeyedDigest, F: RoundFunction>(_digest: &D, _function: &F)
-    ensures opening { OpeningLaws D.KeyedDigest.keyed F.RoundFunction.function }
-    ensures deals { DealLaws D.KeyedDigest.keyed F.RoundFunction.function }
+    ensures opening { OpeningLaws D.keyed F.function }
+    ensures deals { DealLaws D.keyed F.function }
 {}

@@ -13,7 +13,7 @@ fn four(bytes: &[u8]) -> [u8; 4]
 // The digest in front of the space.
 fn digest_into<D: KeyedDigest>(digest: &D, key: &[u8], message: &[u8], space: &mut [u8])
     requires { (length key.now ≤ 65536) × ((length message.now ≤ 65536) × (64 ≤ length space.old)) }
-    ensures { take 4 space.new ≡ take 4 (D.KeyedDigest.keyed key.now message.now) }
+    ensures { take 4 space.new ≡ take 4 (D.keyed key.now message.now) }
 {
     let _ = digest.digest(key, message, space);
 }
@@ -21,7 +21,7 @@ fn digest_into<D: KeyedDigest>(digest: &D, key: &[u8], message: &[u8], space: &m
 /// The first four bytes of the digest.
 pub fn first_four<D: KeyedDigest>(digest: &D, key: &[u8], message: &[u8]) -> [u8; 4]
     requires { (length key.now ≤ 65536) × (length message.now ≤ 65536) }
-    ensures { result ≡ take 4 (D.KeyedDigest.keyed key.now message.now) }
+    ensures { result ≡ take 4 (D.keyed key.now message.now) }
 {
     let mut space = [0; 64];
     digest_into(digest, key, message, &mut space);
@@ -37,7 +37,7 @@ fn same(a: &[u8], b: &[u8]) -> bool
 /// Whether a value begins with the first four bytes of the digest with the rest of it as the key.
 pub fn digest_fits<D: KeyedDigest>(digest: &D, value: &[u8], secret: &[u8]) -> bool
     requires { (4 ≤ length value.now) × ((length value.now ≤ 64) × (length secret.now ≤ 64)) }
-    ensures { Decides result (take 4 value.now ≡ take 4 (D.KeyedDigest.keyed (drop 4 value.now) secret.now)) }
+    ensures { Decides result (take 4 value.now ≡ take 4 (D.keyed (drop 4 value.now) secret.now)) }
 {
     same(
         &value[0..4],

@@ -32,7 +32,7 @@ fn secret_fits<D: KeyedDigest>(
 ) -> bool
     requires { (Sound (length secret.old) xs.now values.now) × (length check.old ≡ length secret.old) }
     ensures secret { secret.new ≡ value_through (length secret.old) (shares_of (length secret.old) xs.now values.now) 255 }
-    ensures check { Decides result (2 ≤ length xs.now → Checked D.KeyedDigest.keyed (length secret.old) (value_through (length secret.old) (shares_of (length secret.old) xs.now values.now) 254) (value_through (length secret.old) (shares_of (length secret.old) xs.now values.now) 255)) }
+    ensures check { Decides result (2 ≤ length xs.now → Checked D.keyed (length secret.old) (value_through (length secret.old) (shares_of (length secret.old) xs.now values.now) 254) (value_through (length secret.old) (shares_of (length secret.old) xs.now values.now) 255)) }
 {
     fill_value(xs, values, 255, secret);
     if xs.len() < 2 {
@@ -55,7 +55,7 @@ fn checked_secret<D: KeyedDigest>(
     secret: &mut [u8],
 ) -> bool
     requires { (Sound (length secret.old) xs.now values.now) × ((length candidate.old ≡ length secret.old) × (length check.old ≡ length secret.old)) }
-    ensures { FixedAnswer D.KeyedDigest.keyed (shares_of (length secret.old) xs.now values.now) [] secret.old result secret.new }
+    ensures { FixedAnswer D.keyed (shares_of (length secret.old) xs.now values.now) [] secret.old result secret.new }
 {
     if !secret_fits(digest, xs, values, candidate, check) {
         return false;
@@ -74,7 +74,7 @@ fn fixed_secret<D: KeyedDigest>(
     secret: &mut [u8],
 ) -> bool
     requires { (Sound (length secret.old) xs.now values.now) × ((length others.now ≡ length other_xs.now * length secret.old) × (length other_xs.now ≤ 16)) }
-    ensures { FixedAnswer D.KeyedDigest.keyed (shares_of (length secret.old) xs.now values.now) (shares_of (length secret.old) other_xs.now others.now) secret.old result secret.new }
+    ensures { FixedAnswer D.keyed (shares_of (length secret.old) xs.now values.now) (shares_of (length secret.old) other_xs.now others.now) secret.old result secret.new }
 {
     let n = secret.len();
     if !others_fit(n, xs, values, other_xs, others) {
@@ -103,8 +103,8 @@ pub fn curve_secret<D: KeyedDigest>(
     values: &[u8],
     secret: &mut [u8],
 ) -> bool
-    ensures answer { SecretAnswer D.KeyedDigest.keyed threshold.value xs.now values.now secret.old result secret.new }
-    ensures laws { CurveLaws D.KeyedDigest.keyed }
+    ensures answer { SecretAnswer D.keyed threshold.value xs.now values.now secret.old result secret.new }
+    ensures laws { CurveLaws D.keyed }
 {
     let n = secret.len();
     let t = usize::from(threshold.value);

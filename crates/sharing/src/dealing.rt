@@ -30,7 +30,7 @@ fn put(area: &mut [u8], at: usize, part: &[u8])
 // The values at these places, one after the other: those drawn, the digest and its key, the secret.
 fn fill_chosen<D: KeyedDigest>(digest: &D, t: usize, secret: &[u8], drawn: &[u8], chosen: &mut [u8])
     requires { Choosable t secret.now drawn.now chosen.old }
-    ensures { chosen.new ≡ ((take ((t - 2) * length secret.now) drawn.now ++ take 4 (D.KeyedDigest.keyed (drop ((t - 2) * length secret.now) drawn.now) secret.now)) ++ drop ((t - 2) * length secret.now) drawn.now) ++ secret.now }
+    ensures { chosen.new ≡ ((take ((t - 2) * length secret.now) drawn.now ++ take 4 (D.keyed (drop ((t - 2) * length secret.now) drawn.now) secret.now)) ++ drop ((t - 2) * length secret.now) drawn.now) ++ secret.now }
 {
     let n = secret.len();
     let at = (t - 2) * n;
@@ -54,7 +54,7 @@ fn fill_dealt<D: KeyedDigest>(
     value: &mut [u8],
 )
     requires { (Choosable t secret.now drawn.now chosen.old) × ((length xs.old ≡ t) × (length value.old ≡ length secret.now)) }
-    ensures { value.new ≡ value_through (length secret.now) (chosen_shares D.KeyedDigest.keyed t secret.now drawn.now) x }
+    ensures { value.new ≡ value_through (length secret.now) (chosen_shares D.keyed t secret.now drawn.now) x }
 {
     fill_chosen(digest, t, secret, drawn, chosen);
     fill_places(t, xs);
@@ -88,8 +88,8 @@ pub fn curve_value<D: KeyedDigest>(
     work: &mut [u8],
     value: &mut [u8],
 ) -> bool
-    ensures answer { DealAnswer D.KeyedDigest.keyed threshold.value secret.now drawn.now x work.old value.old result value.new }
-    ensures curve { DealtCurve D.KeyedDigest.keyed }
+    ensures answer { DealAnswer D.keyed threshold.value secret.now drawn.now x work.old value.old result value.new }
+    ensures curve { DealtCurve D.keyed }
 {
     let t = usize::from(threshold.value);
     if !are_dealable(t, secret, drawn, work, value) {
