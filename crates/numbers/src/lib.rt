@@ -21,6 +21,7 @@ pub trait Number: Copy {
     ghost number: { Self → ℕ };
 
     /// The number with this value, if the value is in the range.
+    // Each type has its own body: one for all would have to make a Self without knowing its fields.
     fn new(value: u16) -> Option<Self>
         ensures { MatchOption result (LEAST ≤ value → MOST < value) (λ n. number n ≡ value) };
 
