@@ -20,15 +20,7 @@ impl BoundField {
     pub(crate) fn place(self) -> usize
         ensures { result ≡ bound_place self }
     {
-        match self {
-            BoundField::Identifier => 0,
-            BoundField::Flag => 1,
-            BoundField::Exponent => 2,
-            BoundField::GroupThreshold => 3,
-            BoundField::GroupCount => 4,
-            BoundField::ValueLength => 5,
-            BoundField::MemberThreshold => 6,
-        }
+        self as usize
     }
 }
 
@@ -55,7 +47,7 @@ impl PlanField {
             PlanField::ValueLength => 3,
             PlanField::GroupCount => 4,
             PlanField::GroupThreshold => 5,
-            PlanField::Group(group) => 6 + group.value as usize,
+            PlanField::Group(group) => 6 + usize::from(group.value),
         }
     }
 }
@@ -64,8 +56,5 @@ impl PlanField {
 pub(crate) fn row_place(row: Option<GroupNumber>) -> usize
     ensures { result ≡ row_place row }
 {
-    match row {
-        Some(group) => group.value as usize,
-        None => 16,
-    }
+    row.map_or(16, |group| usize::from(group.value))
 }

@@ -21,15 +21,16 @@ impl fmt::Display for Layer {
     ghost output = { λ l. Some (layer_name l) };
 
     fn fmt<W: fmt::Write>(&self, f: &mut fmt::Formatter<W>) -> fmt::Result {
-        match self {
-            Layer::List => f.write_str("list"),
-            Layer::Text => f.write_str("text"),
-            Layer::Card => f.write_str("card"),
-            Layer::Cipher => f.write_str("cipher"),
-            Layer::Digest => f.write_str("digest"),
-            Layer::Deal => f.write_str("deal"),
-            Layer::Source => f.write_str("source"),
-            Layer::Tray => f.write_str("tray"),
-        }
+        let name = match self {
+            Layer::List => "list",
+            Layer::Text => "text",
+            Layer::Card => "card",
+            Layer::Cipher => "cipher",
+            Layer::Digest => "digest",
+            Layer::Deal => "deal",
+            Layer::Source => "source",
+            Layer::Tray => "tray",
+        };
+        f.write_str(name)
     }
 }

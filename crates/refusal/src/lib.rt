@@ -1,11 +1,12 @@
 //! Every refusal of the kit: its number, its layer and its place.
 #![tactic(auto)]
 
-ghost use Rattle.std.specs.Prelude.{◌≡◌, true};
+ghost use Rattle.std.specs.Prelude.{◌≡◌, ◌<◌, true, length, Some};
 ghost use Rattle.refusal.specs.Refusals.{number_of, layer_of, place_of};
-ghost use Rattle.refusal.specs.Sentences.{plain_line};
+ghost use Rattle.refusal.specs.Sentences.{plain_line, sentence_of};
 
 use numbers::{GroupNumber, MemberNumber};
+use std::error::Error;
 use std::fmt;
 
 mod fields;
@@ -146,20 +147,22 @@ impl Refusal {
             Refusal::InputTooLong => 65_536,
             Refusal::EmptyTray => 0,
             Refusal::BindingBroken { field } => field.place(),
-            Refusal::SameCard { member } => member.value as usize,
-            Refusal::OtherValue { member } => member.value as usize,
+            Refusal::SameCard { member } => usize::from(member.value),
+            Refusal::OtherValue { member } => usize::from(member.value),
             Refusal::TrayFull => 256,
             Refusal::Lacking { row } => row_place(row),
             Refusal::Contradictory { row } => row_place(row),
-            Refusal::NoCardThere { member } => member as usize,
+            Refusal::NoCardThere { member } => usize::from(member),
             Refusal::TooFewBytes { wanted } => wanted,
             Refusal::NoSuchCard { cards } => cards,
         }
     }
 
-    /// What is wrong, for a person: one line, with no colon in it.
+    /// What is wrong, for a person: one line that is not empty, with no colon in it.
     pub fn sentence(self) -> &'static str
-        ensures { plain_line result.now ≡ true }
+        ensures text { result.now ≡ sentence_of self }
+        ensures plain { plain_line result.now ≡ true }
+        ensures nonempty { 0 < length result.now }
     {
         match self {
             Refusal::FaultyWordFile { .. } => "the word file has a faulty or a missing line here",
@@ -195,7 +198,11 @@ impl Refusal {
 }
 
 impl fmt::Display for Refusal {
+    ghost output = { λ r. Some (sentence_of r) };
+
     fn fmt<W: fmt::Write>(&self, f: &mut fmt::Formatter<W>) -> fmt::Result {
         f.write_str(self.sentence())
     }
 }
+
+impl Error for Refusal {}
