@@ -8,6 +8,17 @@ mod parameters;
 
 pub use parameters::Parameters;
 
+/// The value, if it is in that range.
+fn in_range(value: u16, least: u16, most: u16) -> Option<u16>
+    ensures { MatchOption result (least ≤ value → most < value) (λ n. (n ≡ value) × ((least ≤ n) × (n ≤ most))) }
+{
+    if least <= value && value <= most {
+        Some(value)
+    } else {
+        None
+    }
+}
+
 /// A number from `LEAST` to `MOST`.
 pub trait Number: Copy {
     const LEAST: u16;
@@ -21,7 +32,6 @@ pub trait Number: Copy {
     ghost number: { Self → ℕ };
 
     /// The number with this value, if the value is in the range.
-    // Each type has its own body: one for all would have to make a Self without knowing its fields.
     fn new(value: u16) -> Option<Self>
         ensures { MatchOption result (LEAST ≤ value → MOST < value) (λ n. number n ≡ value) };
 
@@ -57,11 +67,8 @@ impl Number for Identifier {
     ghost in_range = { Prim.search rules };
 
     fn new(value: u16) -> Option<Identifier> {
-        if Self::LEAST <= value && value <= Self::MOST {
-            Some(Identifier { value })
-        } else {
-            None
-        }
+        let value = in_range(value, Self::LEAST, Self::MOST)?;
+        Some(Identifier { value })
     }
 
     fn get(self) -> u16 {
@@ -92,11 +99,8 @@ impl Number for Exponent {
     ghost in_range = { Prim.search rules };
 
     fn new(value: u16) -> Option<Exponent> {
-        if Self::LEAST <= value && value <= Self::MOST {
-            Some(Exponent { value: value as u8 })
-        } else {
-            None
-        }
+        let value = in_range(value, Self::LEAST, Self::MOST)?;
+        Some(Exponent { value: value as u8 })
     }
 
     fn get(self) -> u16 {
@@ -127,11 +131,8 @@ impl Number for RoundNumber {
     ghost in_range = { Prim.search rules };
 
     fn new(value: u16) -> Option<RoundNumber> {
-        if Self::LEAST <= value && value <= Self::MOST {
-            Some(RoundNumber { value: value as u8 })
-        } else {
-            None
-        }
+        let value = in_range(value, Self::LEAST, Self::MOST)?;
+        Some(RoundNumber { value: value as u8 })
     }
 
     fn get(self) -> u16 {
@@ -162,11 +163,8 @@ impl Number for GroupNumber {
     ghost in_range = { Prim.search rules };
 
     fn new(value: u16) -> Option<GroupNumber> {
-        if Self::LEAST <= value && value <= Self::MOST {
-            Some(GroupNumber { value: value as u8 })
-        } else {
-            None
-        }
+        let value = in_range(value, Self::LEAST, Self::MOST)?;
+        Some(GroupNumber { value: value as u8 })
     }
 
     fn get(self) -> u16 {
@@ -197,11 +195,8 @@ impl Number for MemberNumber {
     ghost in_range = { Prim.search rules };
 
     fn new(value: u16) -> Option<MemberNumber> {
-        if Self::LEAST <= value && value <= Self::MOST {
-            Some(MemberNumber { value: value as u8 })
-        } else {
-            None
-        }
+        let value = in_range(value, Self::LEAST, Self::MOST)?;
+        Some(MemberNumber { value: value as u8 })
     }
 
     fn get(self) -> u16 {
@@ -233,11 +228,8 @@ impl Number for Threshold {
     ghost in_range = { Prim.search rules };
 
     fn new(value: u16) -> Option<Threshold> {
-        if Self::LEAST <= value && value <= Self::MOST {
-            Some(Threshold { value: value as u8 })
-        } else {
-            None
-        }
+        let value = in_range(value, Self::LEAST, Self::MOST)?;
+        Some(Threshold { value: value as u8 })
     }
 
     fn get(self) -> u16 {
@@ -269,11 +261,8 @@ impl Number for GroupCount {
     ghost in_range = { Prim.search rules };
 
     fn new(value: u16) -> Option<GroupCount> {
-        if Self::LEAST <= value && value <= Self::MOST {
-            Some(GroupCount { value: value as u8 })
-        } else {
-            None
-        }
+        let value = in_range(value, Self::LEAST, Self::MOST)?;
+        Some(GroupCount { value: value as u8 })
     }
 
     fn get(self) -> u16 {
@@ -304,11 +293,8 @@ impl Number for WordIndex {
     ghost in_range = { Prim.search rules };
 
     fn new(value: u16) -> Option<WordIndex> {
-        if Self::LEAST <= value && value <= Self::MOST {
-            Some(WordIndex { value })
-        } else {
-            None
-        }
+        let value = in_range(value, Self::LEAST, Self::MOST)?;
+        Some(WordIndex { value })
     }
 
     fn get(self) -> u16 {
