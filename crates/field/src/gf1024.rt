@@ -23,19 +23,21 @@ impl Gf1024 {
         }
     }
 
-    /// The element with the value of a byte.
-    pub fn from_byte(value: u8) -> Gf1024
-        ensures { result.value ≡ value }
-    {
-        Gf1024 {
-            value: u16::from(value),
-        }
-    }
-
     /// The element's value, below 1,024.
     pub fn value(self) -> u16
         ensures { result ≡ self.value }
     {
         self.value
+    }
+}
+
+/// The element with the value of a byte.
+impl From<u8> for Gf1024 {
+    ghost from_gives = { λ byte element. element.value ≡ byte };
+
+    fn from(value: u8) -> Gf1024 {
+        Gf1024 {
+            value: u16::from(value),
+        }
     }
 }
