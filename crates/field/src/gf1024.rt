@@ -30,14 +30,3 @@ impl Gf1024 {
         self.value
     }
 }
-
-/// The element with the value of a byte.
-impl From<u8> for Gf1024 {
-    ghost from_gives = { λ byte element. element.value ≡ byte };
-
-    fn from(value: u8) -> Gf1024 {
-        Gf1024 {
-            value: u16::from(value),
-        }
-    }
-}
