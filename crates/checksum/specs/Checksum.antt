@@ -2,6 +2,7 @@
 use Rattle.std.specs.Prelude.{◌≡◌, ℕ, ◌+◌, ◌≤◌, Bool, true, false, cond, ◌&&◌, List, [], ◌∷◌, ◌++◌, map, length, codes, ◌==◌}
 use Rattle.field.specs.declared.gf1024.Gf1024.{Gf1024}
 use Rattle.field.specs.Gf1024.{element, sum, product}
+use Rattle.checksum.specs.declared.Remainder.{Remainder}
 use Rattle.checksum.specs.Values.{values}
 use Rattle.field.specs.Polynomial.{times_root, plus_constant, remainder}
 
@@ -24,6 +25,10 @@ times_generator q = times_root_at 2 (times_root_at 4 (times_root_at 8 q))
 -- what division by (x - a)·(x - a^2)·(x - a^3) leaves
 abbrev pub remainder_of : List Gf1024 → List Gf1024
 remainder_of cs = remainder sum product (times_generator (element 1 ∷ [])) cs
+
+-- the coefficients of a remainder, the highest first
+abbrev pub left : Remainder → List Gf1024
+left remainder = remainder.high ∷ remainder.middle ∷ remainder.low ∷ []
 
 -- whether two lists are the same
 abbrev pub equal_numbers : List ℕ → List ℕ → Bool
