@@ -10,9 +10,6 @@ use Rattle.field.proofs.FieldRing as Ring
 use Rattle.field.proofs.Horner.{next as item-next, finished}
 use Rattle.field.proofs.Lagrange as Lagrange
 
-never : {A : Type 0} (o : Option A) (a : A) → o ≡ None → o ≡ Some a → ⊥
-never o a none some = let z : ◌≡◌ {A = ℕ} 0 1 = cc in omega arith
-
 -- ---- a list at one place
 split_at : {A : Type 0} (l : List A) (i : ℕ) (p : A) → i < length l → p ≡ get_or l i p → l ≡ take i l ++ (p ∷ drop (i + 1) l)
 split_at l i p h e = sym (take-append-drop i l) ∙ ap (λ m. take i l ++ m) (item-next l i p h e)
@@ -37,10 +34,6 @@ all-around : {A : Type 0} (P : A → Type 0) (front : List A) (x : A) (rest : Li
 all-around P [] x rest all = all.0
 all-around P (y ∷ front) x rest all = all-around P front x rest all.1
 
-all_left : {A : Type 0} (P : A → Type 0) (front rest : List A) → AllByRecursion P (front ++ rest) → AllByRecursion P front
-all_left P [] rest all = tt
-all_left P (y ∷ front) rest all = (all.0, all_left P front rest all.1)
-
 distinct_around : {A : Type 0} (front : List A) (x : A) (rest : List A) → Distinct (front ++ (x ∷ rest))
     → Absent x front × Absent x rest
 distinct_around [] x rest d = (tt, d.0)
@@ -61,11 +54,11 @@ module _ {F : Type 0} {zeroF one : F} {◌⊕◌ ◌⊗◌ : F → F → F} {inv
   no_divisor : (xi xj : F) → inverse (xi ⊕ xj) ≡ None → (xj ≡ xi → ⊥) → ⊥
   no_divisor xi xj none apart =
       let i = law.inverse_other (xi ⊕ xj) (Ring.apart law xi xj (λ e. apart (sym e))) in
-      never (inverse (xi ⊕ xj)) i.0 none i.1.0
+      cc (none, i.1.0)
 
   a-divisor : (xi xj d : F) → inverse (xi ⊕ xj) ≡ Some d → xj ≡ xi → ⊥
   a-divisor xi xj d some e =
-      never (inverse (xi ⊕ xj)) d (ap inverse (ap (λ y. xi ⊕ y) e ∙ law.sum_self xi) ∙ law.inverse_zero) some
+      cc (ap inverse (ap (λ y. xi ⊕ y) e ∙ law.sum_self xi) ∙ law.inverse_zero, some)
 
   quotients-step : (xi xj d result next : F) (xs : List F) → inverse (xi ⊕ xj) ≡ Some d → next ≡ (result ⊗ ((x ⊕ xj) ⊗ d))
       → (next ⊗ Q xi xs) ≡ (result ⊗ Q xi (xj ∷ xs))
@@ -83,7 +76,7 @@ module _ {F : Type 0} {zeroF one : F} {◌⊕◌ ◌⊗◌ : F → F → F} {inv
       → inverse (xi ⊕ p.x) ≡ None → r ≡ None
       → TimesQuotients zeroF one ◌⊕◌ ◌⊗◌ inverse start x xi (xs_of l) r
   quotients-none xi start l i p None h e none is = meets xi l i p h e none
-  quotients-none xi start l i p (Some v) h e none is = absurd (never (Some v) v is refl)
+  quotients-none xi start l i p (Some v) h e none is = absurd (cc)
 
   pub quotients-more : (xi start result next d : F) (l : List (Point F)) (i : ℕ) (p : Point F) → i < length l → p ≡ get_or l i p
       → inverse (xi ⊕ p.x) ≡ Some d → next ≡ (result ⊗ ((x ⊕ p.x) ⊗ d))
@@ -93,14 +86,6 @@ module _ {F : Type 0} {zeroF one : F} {◌⊕◌ ◌⊗◌ : F → F → F} {inv
     quotients-step xi p.x d result next (xs_of (drop (i + 1) l)) some is ∙ ap (λ xs. result ⊗ Q xi xs) (sym (xs_drop l i p h e)) ∙ inv.0,
     subst (Absent xi) (sym (xs_take l i p h e))
         (All-append (λ xj. xj ≡ xi → ⊥) (xs_of (take i l)) (p.x ∷ []) inv.1 (a-divisor xi p.x d some, tt)),
-  )
-
-  pub quotients-all : (xi start result : F) (l : List (Point F)) (i : ℕ) → i ≤ length l → length l ≤ i
-      → ((result ⊗ Q xi (xs_of (drop i l))) ≡ (start ⊗ Q xi (xs_of l))) × Absent xi (xs_of (take i l))
-      → Absent xi (xs_of l) × (result ≡ (start ⊗ Q xi (xs_of l)))
-  quotients-all xi start result l i h k inv = (
-    subst (λ m. Absent xi (xs_of m)) (take_all i l k) inv.1,
-    sym (law.product_one result) ∙ ap (λ m. result ⊗ Q xi (xs_of m)) (sym (finished l i h k)) ∙ inv.0,
   )
 
   -- ---- one point more
@@ -150,7 +135,7 @@ module _ {F : Type 0} {zeroF one : F} {◌⊕◌ ◌⊗◌ : F → F → F} {inv
 
   pub absent : (l : List (Point F)) (r : Option F) → r ≡ None → (Distinct (xs_of l) → ⊥) → Interpolated zeroF one ◌⊕◌ ◌⊗◌ inverse x l r
   absent l None is none = none
-  absent l (Some v) is none = absurd (never (Some v) v is refl)
+  absent l (Some v) is none = absurd (cc)
 
   -- ---- the polynomial
   pub one-polynomial : (l : List (Point F)) (r : Option F) → Interpolated zeroF one ◌⊕◌ ◌⊗◌ inverse x l r → OnePolynomial zeroF one ◌⊕◌ ◌⊗◌ inverse x l r

@@ -1,11 +1,11 @@
 -- The field of 256 elements obeys the laws of a field.
-use Rattle.std.specs.Prelude.{◌≡◌, ℕ, ◌<◌, T, bit_xor}
+use Rattle.std.specs.Prelude.{◌≡◌, ℕ, ◌<◌, T}
 use Rattle.std.proofs.Common.{mod-eq_of_lt, lit<}
 use mathlib.Core.HLevel.{is_prop→PathP}
 use Rattle.std.proofs.Math.Bridge.{le_prop}
 use Rattle.field.specs.declared.gf256.Gf256.{Gf256}
 use Rattle.field.specs.CarryLess.{times_x, product_by, times_squares, IsRepresented}
-use Rattle.field.specs.Gf256.{element, bits, sum, multiplied, product, inverse}
+use Rattle.field.specs.Gf256.{element, bits, sum, product, inverse}
 use Rattle.field.specs.Laws.{Laws}
 use Rattle.field.specs.Below.{each}
 use Rattle.field.specs.CarryLessField as CarryLessField
@@ -38,9 +38,3 @@ represented = record {
 
 pub laws : Laws (element 0) (element 1) sum product inverse
 laws = CarryLessField.laws represented
-
-pub sum-value : (a b : Gf256) → (sum a b).value ≡ bit_xor a.value b.value
-sum-value = CarryLessField.sum-value represented
-
-pub product_value : (a b : Gf256) → (product a b).value ≡ multiplied a.value b.value
-product_value = CarryLessField.product_value represented

@@ -13,8 +13,8 @@ loop-i-preserved c =
       omega arith,
     )
 
-pub returns : goal.returns
+pub returns-clause-value : goal.returns-clause-value
 unfolding times_squares
-returns c =
+returns-clause-value c =
     let z : 9 - c.loop-i._i ≡ 0 = omega arith in
-    record { value = sym (c.loop-i.invariant.0 ∙ ap (λ k. times_squares 10 9 k c.loop-i.square c.loop-i.power) z); small = c.loop-i.invariant.2 }
+    sym (c.loop-i.invariant.0 ∙ ap (λ k. times_squares 10 9 k c.loop-i.square c.loop-i.power) z)

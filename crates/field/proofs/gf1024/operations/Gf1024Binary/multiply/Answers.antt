@@ -5,12 +5,6 @@ use Rattle.field.specs.CarryLess.{times_x, product_by}
 use Rattle.field.specs.CarryLessRing.{one-more-bit, bit-lt, times_x-lt}
 use Rattle.field.proofs.gf1024.operations.Gf1024Binary.multiply.Goals as goal
 
-pub overflow_mul-product : goal.overflow_mul-product
-overflow_mul-product c =
-    let bit : (c.args.b / 2 ^ (c.loop-i.i - 1)) % 2 < 2 = mod-lt _ (lit< tt) in
-    let h : (c.args.b / 2 ^ (c.loop-i.i - 1)) % 2 * c.args.a < 1024 = bit-lt _ _ 1024 bit c.requires.a in
-    record { fits = omega arith }
-
 pub loop-i-init : goal.loop-i-init
 unfolding product_by
 loop-i-init c = (refl, lit< tt)
@@ -21,13 +15,3 @@ loop-i-preserved c = (
   one-more-bit 10 9 10 c.args.a c.args.b c.loop-i.product c.loop-i.i c.loop-i-test.true c.loop-i.auto.i c.loop-i.invariant.0,
   xor_lt 10 _ _ (bit-lt _ _ 1024 (mod-lt _ (lit< tt)) c.requires.a) (times_x-lt 10 9 (lit< tt) c.loop-i.product),
 )
-
-pub returns : goal.returns
-returns c =
-    let z : c.loop-i.i ≡ 0 = omega arith in
-    record {
-      value =
-          c.loop-i.invariant.0 ∙ ap (λ i. product_by 10 9 (10 - i) c.args.a (c.args.b / 2 ^ i)) z
-          ∙ ap (product_by 10 9 10 c.args.a) (div-one c.args.b);
-      small = c.loop-i.invariant.1;
-    }
