@@ -1,6 +1,7 @@
 -- The polynomial of a card, and its value by Horner's rule.
-use Rattle.std.proofs.Common.{◌≡◌, ℕ, ◌+◌, ◌<◌, Bool, List, [], ◌∷◌, ◌++◌, map, length, get_or, drop, sym, refl, ap, ◌∙◌, ap₂, add-one, drop-cons}
+use Rattle.std.proofs.Common.{◌≡◌, ℕ, Bool, List, [], ◌∷◌, ◌++◌, map, sym, refl, ap, ◌∙◌, ap₂}
 use Rattle.std.specs.List.{fold}
+use Rattle.std.proofs.lemmas.List.{map-append}
 use Rattle.std.proofs.lemmas.List.Sums.{fold-append}
 use Rattle.field.specs.declared.gf1024.Gf1024.{Gf1024}
 use Rattle.field.specs.Gf1024.{element, sum, product}
@@ -17,10 +18,6 @@ at = after sum product
 abbrev pub val : Gf1024 → List Gf1024 → Gf1024
 val = value_at (element 0) (element 1) sum product
 
-pub map-append : (xs ys : List ℕ) → map element (xs ++ ys) ≡ map element xs ++ map element ys
-map-append [] ys = refl
-map-append (x ∷ xs) ys = ap (λ l. element x ∷ l) (map-append xs ys)
-
 pub elements-values : (ws : List Gf1024) → map element (values ws) ≡ ws
 elements-values [] = refl
 elements-values (w ∷ ws) = ap₂ ◌∷◌ (element-value w) (elements-values ws)
@@ -31,7 +28,7 @@ front extendable = map element (customization extendable)
 pub val-words : (x : Gf1024) (extendable : Bool) (ns : List ℕ)
     → val x (coefficients extendable ns) ≡ at x (at x (element 1) (front extendable)) (map element ns)
 val-words x extendable ns =
-    ap (λ l. val x (element 1 ∷ l)) (map-append (customization extendable) ns)
+    ap (λ l. val x (element 1 ∷ l)) (map-append element (customization extendable) ns)
     ∙ sym (after-value laws x (element 1) (front extendable ++ map element ns))
     ∙ fold-append _ (element 1) (front extendable) (map element ns)
 

@@ -1,5 +1,6 @@
 -- The remainder of the words and three zeros, plus 1, makes the words right, and nothing else does.
 use Rattle.std.proofs.Common.{◌≡◌, suc, Bool, true, false, List, [], ◌∷◌, ◌++◌, map, length, drop, sym, refl, ap, ◌∙◌, append_assoc, lit≤}
+use Rattle.std.proofs.lemmas.List.{map-append}
 use Rattle.std.proofs.lemmas.List.Sums.{fold-append}
 use Rattle.field.specs.declared.gf1024.Gf1024.{Gf1024}
 use Rattle.field.specs.Gf1024.{element, sum, product}
@@ -10,7 +11,7 @@ use Rattle.field.proofs.SparsePolynomial.{sparse_short}
 use Rattle.checksum.specs.declared.Remainder.{Remainder}
 use Rattle.checksum.specs.Values.{values}
 use Rattle.checksum.specs.Checksum.{customization, coefficients, left, remainder_of, check_words_of}
-use Rattle.checksum.proofs.ChecksumPolynomial.{at, val, front, map-append, elements-values, words-value}
+use Rattle.checksum.proofs.ChecksumPolynomial.{at, val, front, elements-values, words-value}
 use Rattle.checksum.proofs.ChecksumRoots.{Ones, no_difference}
 use Rattle.checksum.proofs.ChecksumRemainder.{generator, divided, remainder-divided, one_value, Root, root_2, root_4, root_8}
 
@@ -54,8 +55,8 @@ module _ (extendable : Bool) (ws : List Gf1024) (u v w : Gf1024)
 
   all-elements : map element ((customization extendable ++ values ws) ++ (0 ∷ 0 ∷ 0 ∷ [])) ≡ front extendable ++ (ws ++ zeros)
   all-elements =
-      map-append (customization extendable ++ values ws) (0 ∷ 0 ∷ 0 ∷ [])
-      ∙ ap (λ l. l ++ zeros) (map-append (customization extendable) (values ws) ∙ ap (λ l. front extendable ++ l) (elements-values ws))
+      map-append element (customization extendable ++ values ws) (0 ∷ 0 ∷ 0 ∷ [])
+      ∙ ap (λ l. l ++ zeros) (map-append element (customization extendable) (values ws) ∙ ap (λ l. front extendable ++ l) (elements-values ws))
       ∙ append_assoc (front extendable) ws zeros
 
   pub check-value : values check ≡ check_words_of (customization extendable ++ values ws)

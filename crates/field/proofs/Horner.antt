@@ -1,5 +1,5 @@
 -- Horner's rule gives the value of a polynomial.
-use Rattle.std.proofs.Common.{◌≡◌, ℕ, ◌+◌, ◌<◌, ◌≤◌, List, [], ◌∷◌, ◌++◌, length, get_or, drop, Option, sym, refl, ap, ◌∙◌, ap₂, add-one, arith, drop-cons}
+use Rattle.std.proofs.Common.{◌≡◌, ℕ, ◌+◌, ◌<◌, ◌≤◌, List, [], ◌∷◌, length, get_or, drop, Option, sym, refl, ap, ◌∙◌, ap₂, add-one, arith, drop-cons}
 use Rattle.std.specs.List.{fold}
 use lib.Seq.{drop-length}
 use Rattle.field.specs.Laws.{Laws}

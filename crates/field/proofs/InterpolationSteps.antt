@@ -1,8 +1,8 @@
 -- The steps of the interpolation: one quotient more, one point more.
-use Rattle.std.proofs.Common.{◌≡◌, ℕ, ◌+◌, ◌<◌, ◌≤◌, List, [], ◌∷◌, ◌++◌, length, get_or, take, drop, Some, None, Option, sym, refl, ap, ◌∙◌, subst, ap₂, arith}
+use Rattle.std.proofs.Common.{◌≡◌, ℕ, ◌+◌, ◌<◌, ◌≤◌, List, [], ◌∷◌, ◌++◌, length, get_or, take, drop, Some, None, Option, sym, ap, ◌∙◌, subst, ap₂}
 use Rattle.std.specs.List.{AllByRecursion}
 use Rattle.std.proofs.ByRecursion.{All-append}
-use Rattle.std.proofs.lemmas.List.{take-append-drop, take_all, take_more, map-append}
+use Rattle.std.proofs.lemmas.List.{take-append-drop, take_more, map-append}
 use Rattle.field.specs.Laws.{Laws}
 use Rattle.field.specs.declared.interpolation.point.Point.{Point}
 use Rattle.field.specs.Interpolation.{Absent, Distinct, TimesQuotients, xs_of, value_or, quotients, lagrange_after, Interpolated, OnePolynomial}
@@ -119,9 +119,6 @@ module _ {F : Type 0} {zeroF one : F} {◌⊕◌ ◌⊗◌ : F → F → F} {inv
     inv.1 (subst (λ m. Distinct (xs_of m)) (sym (finished l i h k)) tt),
     sym (law.sum_zero total) ∙ ap (λ m. total ⊕ L (xs_of (take i l)) m) (sym (finished l i h k)) ∙ inv.0,
   )
-
-  pub points_start : (total : F) (l : List (Point F)) → total ≡ zeroF → (total ⊕ L [] l) ≡ L [] l
-  points_start total l e = ap (λ y. y ⊕ L [] l) e ∙ Ring.zero_sum law (L [] l)
 
   pub not_before : (l : List (Point F)) (i : ℕ) (p : Point F) → i < length l → p ≡ get_or l i p
       → (Absent p.x (xs_of (take i l)) → ⊥) → Distinct (xs_of l) → ⊥

@@ -1,6 +1,6 @@
 -- One step of the division.
-use Rattle.std.proofs.Common.{◌≡◌, [], ◌∷◌, sym, ap, ◌∙◌, ap₂}
-use Rattle.field.specs.Gf1024.{element, sum, product}
+use Rattle.std.proofs.Common.{[], ◌∷◌, sym, ap, ◌∙◌, ap₂}
+use Rattle.field.specs.Gf1024.{sum, product}
 use Rattle.checksum.proofs.ChecksumRemainder.{remainder-divided}
 use Rattle.checksum.proofs.Remainder.followed_by.Goals as goal
 

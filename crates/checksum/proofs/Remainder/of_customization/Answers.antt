@@ -1,9 +1,10 @@
 -- The fold is the division.
-use Rattle.std.proofs.Common.{◌≡◌, ◌++◌, [], ◌∷◌, map, rules, refl, sym, ◌∙◌, ap, ap₂}
+use Rattle.std.proofs.Common.{◌≡◌, [], ◌∷◌, map, rules, refl, sym, ◌∙◌, ap, ap₂}
+use Rattle.std.proofs.lemmas.List.{map-append}
 use Rattle.std.proofs.lemmas.Fn.{fold_over, slice_gives, fronts}
 use Rattle.field.specs.Gf1024.{element}
 use Rattle.checksum.specs.Checksum.{left}
-use Rattle.checksum.proofs.ChecksumPolynomial.{front, map-append}
+use Rattle.checksum.proofs.ChecksumPolynomial.{front}
 use Rattle.checksum.proofs.ChecksumRemainder.{divided, remainder-divided}
 use Rattle.checksum.proofs.ChecksumWords.{one_more}
 use Rattle.checksum.proofs.Remainder.of_customization.Goals as goal
@@ -15,7 +16,7 @@ returns c =
     let r = c.one.result in
     fold_over fronts (λ y. y.now) _ (λ ns b. left b ≡ divided p q r (map element ns)) _
     (λ ns a y b f h k. (
-      one_more p q r (element y.now) (map element ns) a b h (search rules) ∙ ap (divided p q r) (sym (map-append ns (y.now ∷ []))),
+      one_more p q r (element y.now) (map element ns) a b h (search rules) ∙ ap (divided p q r) (sym (map-append element ns (y.now ∷ []))),
       search rules,
     ))
     _ _ _ _ (slice_gives c.iter.result) refl c.fold.ensures.ran

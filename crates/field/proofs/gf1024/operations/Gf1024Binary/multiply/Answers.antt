@@ -1,5 +1,5 @@
 -- The loop of `multiply`.
-use Rattle.std.proofs.Common.{◌≡◌, ◌-◌, ◌*◌, ◌/◌, ◌%◌, ◌^◌, ◌<◌, refl, ap, ◌∙◌, mod-lt, div-one, arith, lit<}
+use Rattle.std.proofs.Common.{refl, mod-lt, lit<}
 use lib.Bits.{xor_lt}
 use Rattle.field.specs.CarryLess.{times_x, product_by}
 use Rattle.field.specs.CarryLessRing.{one-more-bit, bit-lt, times_x-lt}
