@@ -17,6 +17,7 @@ use field::gf1024::Gf1024;
 use field::polynomial::evaluate;
 
 /// The string that goes before the words of a card, as bytes.
+// `extendable` is a `bool`, as the flag is one bit of a card.
 fn customization(extendable: bool) -> &'static [u8]
     ensures { result.now ≡ customization_of extendable }
 {
@@ -57,6 +58,7 @@ pub fn is_right(extendable: bool, words: &[Gf1024]) -> bool
 }
 
 /// What division by (x - 2)(x - 4)(x - 8) leaves of the coefficients so far.
+// Three fields and not an array: of a closure that takes an array the proof knows too little for the folds below.
 #[derive(Clone, Copy)]
 struct Remainder {
     high: Gf1024,

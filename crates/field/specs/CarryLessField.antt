@@ -1,14 +1,13 @@
 -- Polynomials over two values modulo x^d + r obey the laws of a field, where each but 0 has the inverse a^(2^d - 2).
-use Rattle.std.specs.Prelude.{◌≡◌, ℕ, zero, suc, ◌-◌, ◌^◌, ◌<◌, Bool, true, false, cond, T, Some, None, Option, ◌==◌, ◌≢◌, bit_xor, nat_eq}
+use Rattle.std.specs.Prelude.{◌≡◌, ℕ, zero, suc, ◌-◌, ◌^◌, ◌<◌, Bool, true, false, cond, Some, None, Option, ◌==◌, ◌≢◌, bit_xor, nat_eq}
 use Rattle.std.proofs.Common.{sym, ap, ap₂, subst, ◌∙◌, pow_pos, ne_eqb, le_of_suc-le-suc, not-suc-le-zero}
-use Rattle.std.proofs.Math.Dec.{eqb→eq}
+use Rattle.std.proofs.lemmas.Bool.{eqb-true, agree_below, agree_below_at}
 use Rattle.std.specs.Int.Bits.{xor_assoc, xor_self, xor_zero_r}
 use Rattle.std.proofs.lemmas.Nat.{xor_comm, xor_lt}
 use Rattle.field.specs.CarryLess as Numbers
 use Rattle.field.specs.CarryLess.{product_modulo, product_by, times_squares, IsRepresented}
 use Rattle.field.specs.Laws.{Laws}
 use Rattle.field.specs.CarryLessRing as Ring
-use Rattle.field.specs.Below.{each, at}
 
 pub times_squares-lt : (d r : ℕ) → r < 2 ^ d → (k a p : ℕ) → p < 2 ^ d → times_squares d r k a p < 2 ^ d
 unfolding times_squares
@@ -20,12 +19,12 @@ times_squares-lt d r hr (suc k) a p h =
 unfoldable pub inverts : ℕ → ℕ → ℕ → Bool
 inverts d r a = cond (a == 0) true (product_modulo d r a (Numbers.inverted d r a) == 1)
 
-pub times-inverted : (d r : ℕ) → T (each (inverts d r) (2 ^ d)) → (a : ℕ) → a < 2 ^ d → (a == 0) ≡ false
+pub times-inverted : (d r : ℕ) → agree_below (inverts d r) (λ _. true) (2 ^ d) ≡ true → (a : ℕ) → a < 2 ^ d → (a == 0) ≡ false
     → product_modulo d r a (Numbers.inverted d r a) ≡ 1
 unfolding inverts
 times-inverted d r all-invert a h z =
     let times : ℕ = product_modulo d r a (Numbers.inverted d r a) in
-    eqb→eq times 1 (subst (λ b. T (cond b true (times == 1))) z (at (inverts d r) (2 ^ d) all-invert a h))
+    eqb-true times 1 (subst (λ b. cond b true (times == 1) ≡ true) z (agree_below_at (inverts d r) (λ _. true) (2 ^ d) a all-invert h))
 
 times-one : (d r a : ℕ) → 1 < 2 ^ d → product_modulo d r a 1 ≡ a
 times-one zero r a h = absurd (not-suc-le-zero (le_of_suc-le-suc h))

@@ -1,13 +1,13 @@
 -- The field of 1,024 elements obeys the laws of a field.
-use Rattle.std.specs.Prelude.{◌≡◌, ℕ, ◌<◌, T}
-use Rattle.std.proofs.Common.{mod-eq_of_lt, lit<}
+use Rattle.std.specs.Prelude.{◌≡◌, ℕ, ◌<◌, true}
+use Rattle.std.proofs.Common.{refl, mod-eq_of_lt, lit<}
+use Rattle.std.proofs.lemmas.Bool.{agree_below}
 use mathlib.Core.HLevel.{is_prop→PathP}
 use Rattle.std.proofs.Math.Bridge.{le_prop}
 use Rattle.field.specs.declared.gf1024.Gf1024.{Gf1024}
 use Rattle.field.specs.CarryLess.{times_x, product_by, times_squares, IsRepresented}
 use Rattle.field.specs.Gf1024.{element, bits, sum, product, inverse}
 use Rattle.field.specs.Laws.{Laws}
-use Rattle.field.specs.Below.{each}
 use Rattle.field.specs.CarryLessField as CarryLessField
 use Rattle.field.specs.CarryLessField.{inverts, times-inverted}
 
@@ -22,9 +22,9 @@ pub value-element : (n : ℕ) → n < 1024 → (element n).value ≡ n
 value-element n h = mod-eq_of_lt h
 
 -- by computing it for each number
-all-invert : T (each (inverts 10 9) 1024)
+all-invert : agree_below (inverts 10 9) (λ _. true) 1024 ≡ true
 unfolding inverts times_x product_by times_squares
-all-invert = tt
+all-invert = refl
 
 pub represented : IsRepresented 10 9 element bits
 represented = record {
