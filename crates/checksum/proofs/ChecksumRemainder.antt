@@ -1,6 +1,7 @@
 -- A card is right exactly when its polynomial leaves the remainder 1.
-use Rattle.std.proofs.Common.{◌≡◌, ℕ, suc, ◌-◌, Bool, true, false, eqb, List, [], ◌∷◌, map, length, sym, refl, ap, ◌∙◌, ap₂, arith, lit≤}
-use Rattle.std.proofs.lemmas.Bool.{eqb-true, eq-eqb, and_parts, and_from, false≢true}
+use Rattle.std.proofs.Common.{◌≡◌, ℕ, suc, ◌-◌, Bool, true, false, List, [], ◌∷◌, map, length, sym, refl, ap, ◌∙◌, ap₂, arith, lit≤}
+use Rattle.std.specs.Str.{bytes_eq}
+use Rattle.std.proofs.lemmas.Slice.Eq.{bytes_eq-Decides}
 use Rattle.field.specs.CarryLess.{times_x, product_by}
 use Rattle.field.specs.declared.gf1024.Gf1024.{Gf1024}
 use Rattle.field.specs.Gf1024.{element, sum, product}
@@ -11,7 +12,7 @@ use Rattle.field.proofs.Horner.{from_zero}
 use Rattle.field.proofs.PolynomialDivision as Division
 use Rattle.field.proofs.SparsePolynomial.{sparse_short}
 use Rattle.checksum.specs.Values.{values}
-use Rattle.checksum.specs.Checksum.{coefficients, times_generator, remainder_of, equal_numbers, is_right, Right}
+use Rattle.checksum.specs.Checksum.{coefficients, times_generator, remainder_of, is_right, Right}
 use Rattle.checksum.proofs.ChecksumPolynomial.{at, elements-values}
 use Rattle.checksum.proofs.ChecksumRoots.{Ones, no_difference, right_ones, ones_right}
 
@@ -100,22 +101,11 @@ module _ (p q r : Gf1024) (cs : List Gf1024) where
   }
 
 -- ---- the test
-equal_true : (ms ns : List ℕ) → equal_numbers ms ns ≡ true → ms ≡ ns
-equal_true [] [] e = refl
-equal_true [] (n ∷ ns) e = absurd (false≢true e)
-equal_true (m ∷ ms) [] e = absurd (false≢true e)
-equal_true (m ∷ ms) (n ∷ ns) e =
-    let b = and_parts (eqb m n) (equal_numbers ms ns) e in ap₂ ◌∷◌ (eqb-true m n b.0) (equal_true ms ns b.1)
+test_left : (cs : List Gf1024) → bytes_eq (values cs) (0 ∷ 0 ∷ 1 ∷ []) ≡ true → cs ≡ one_left
+test_left cs e = sym (elements-values cs) ∙ ap (map element) ((bytes_eq-Decides (values cs) (0 ∷ 0 ∷ 1 ∷ [])).0 e)
 
-equal_same : (ms : List ℕ) → equal_numbers ms ms ≡ true
-equal_same [] = refl
-equal_same (m ∷ ms) = and_from (eqb m m) (equal_numbers ms ms) (eq-eqb m m refl) (equal_same ms)
-
-test_left : (cs : List Gf1024) → equal_numbers (values cs) (0 ∷ 0 ∷ 1 ∷ []) ≡ true → cs ≡ one_left
-test_left cs e = sym (elements-values cs) ∙ ap (map element) (equal_true (values cs) (0 ∷ 0 ∷ 1 ∷ []) e)
-
-left-test : (cs : List Gf1024) → cs ≡ one_left → equal_numbers (values cs) (0 ∷ 0 ∷ 1 ∷ []) ≡ true
-left-test cs e = ap (λ l. equal_numbers (values l) (0 ∷ 0 ∷ 1 ∷ [])) e ∙ equal_same (0 ∷ 0 ∷ 1 ∷ [])
+left-test : (cs : List Gf1024) → cs ≡ one_left → bytes_eq (values cs) (0 ∷ 0 ∷ 1 ∷ []) ≡ true
+left-test cs e = ap (λ l. bytes_eq (values l) (0 ∷ 0 ∷ 1 ∷ [])) e
 
 pub is_right-ones : (extendable : Bool) (ns : List ℕ) → is_right extendable ns ≡ true → Ones (coefficients extendable ns)
 is_right-ones true ns e = remainder-ones _ _ _ _ (test_left (remainder_of (coefficients true ns)) e)

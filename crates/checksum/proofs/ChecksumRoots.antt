@@ -4,8 +4,7 @@ use Rattle.field.specs.CarryLess.{times_x, product_by}
 use Rattle.field.specs.declared.gf1024.Gf1024.{Gf1024}
 use Rattle.field.specs.Gf1024.{element, sum, product}
 use Rattle.field.specs.Polynomial.{power, plus_constant}
-use Rattle.field.specs.Below.{each}
-use Rattle.field.specs.Below as Below
+use Rattle.std.proofs.lemmas.Bool.{agree_below, agree_below_at}
 use Rattle.field.specs.Gf1024Laws.{same, laws}
 use Rattle.field.proofs.Horner.{from_zero}
 use Rattle.field.proofs.SparsePolynomial as Sparse
@@ -58,13 +57,13 @@ pow = power (element 1) product
 not_one : ℕ → Bool
 not_one k = not (eqb (pow (element 2) (suc k)).value 1)
 
-none-is-one : T (each not_one 59)
+none-is-one : agree_below not_one (λ _. true) 59 ≡ true
 unfolding times_x product_by not_one
-none-is-one = tt
+none-is-one = refl
 
 pub order : (k : ℕ) → k < 59 → pow (element 2) (suc k) ≡ element 1 → ⊥
 unfolding not_one
-order k h = unequal (pow (element 2) (suc k)) (element 1) refl refl (Below.at not_one 59 none-is-one k h)
+order k h = unequal (pow (element 2) (suc k)) (element 1) refl refl (subst T (sym (agree_below_at not_one (λ _. true) 59 k none-is-one h)) tt)
 
 a-not-zero : element 2 ≡ element 0 → ⊥
 a-not-zero = unequal (element 2) (element 0) refl refl tt

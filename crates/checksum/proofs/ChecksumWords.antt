@@ -1,15 +1,17 @@
 -- The remainder of the words and three zeros, plus 1, makes the words right, and nothing else does.
 use Rattle.std.proofs.Common.{◌≡◌, suc, Bool, true, false, List, [], ◌∷◌, ◌++◌, map, length, drop, sym, refl, ap, ◌∙◌, append_assoc, lit≤}
+use Rattle.std.proofs.lemmas.List.{map-append}
+use Rattle.std.proofs.lemmas.List.Sums.{fold-append}
 use Rattle.field.specs.declared.gf1024.Gf1024.{Gf1024}
 use Rattle.field.specs.Gf1024.{element, sum, product}
 use Rattle.field.specs.Polynomial.{divide_steps, plus_constant}
 use Rattle.field.specs.Gf1024Laws.{laws}
-use Rattle.field.proofs.Horner.{after-append}
 use Rattle.field.proofs.PolynomialDivision as Division
 use Rattle.field.proofs.SparsePolynomial.{sparse_short}
+use Rattle.checksum.specs.declared.Remainder.{Remainder}
 use Rattle.checksum.specs.Values.{values}
-use Rattle.checksum.specs.Checksum.{customization, coefficients, remainder_of, check_words_of}
-use Rattle.checksum.proofs.ChecksumPolynomial.{at, val, front, map-append, elements-values, words-value}
+use Rattle.checksum.specs.Checksum.{customization, coefficients, left, remainder_of, check_words_of}
+use Rattle.checksum.proofs.ChecksumPolynomial.{at, val, front, elements-values, words-value}
 use Rattle.checksum.proofs.ChecksumRoots.{Ones, no_difference}
 use Rattle.checksum.proofs.ChecksumRemainder.{generator, divided, remainder-divided, one_value, Root, root_2, root_4, root_8}
 
@@ -25,9 +27,11 @@ divided-append p q r [] ds u v w e = ap (λ l. onwards l ds) e
 divided-append p q r (c ∷ cs) ds u v w e =
     divided-append (sum q (product p (element 14))) (sum r (product p (element 56))) (sum c (product p (element 64))) cs ds u v w e
 
--- one step more
-pub one-step : (p q r c : Gf1024) (cs : List Gf1024) (u v w : Gf1024) → u ∷ v ∷ w ∷ [] ≡ remainder_of (p ∷ q ∷ r ∷ c ∷ []) → divided p q r (c ∷ cs) ≡ divided u v w cs
-one-step p q r c cs u v w e = sym (divided-append p q r (c ∷ []) cs u v w (e ∙ remainder-divided p q r (c ∷ [])))
+-- one coefficient more
+pub one_more : (p q r c : Gf1024) (cs : List Gf1024) (a b : Remainder) → left a ≡ divided p q r cs → left b ≡ remainder_of (left a ++ (c ∷ []))
+    → left b ≡ divided p q r (cs ++ (c ∷ []))
+one_more p q r c cs a b so more =
+    more ∙ remainder-divided a.high a.middle a.low (c ∷ []) ∙ divided-append p q r cs (c ∷ []) a.high a.middle a.low so
 
 -- two zeros before the first coefficient
 leading_zeros : (a c d : Gf1024) (ds : List Gf1024) → divided (element 0) (element 0) a (c ∷ d ∷ ds) ≡ divided a c d ds
@@ -51,8 +55,8 @@ module _ (extendable : Bool) (ws : List Gf1024) (u v w : Gf1024)
 
   all-elements : map element ((customization extendable ++ values ws) ++ (0 ∷ 0 ∷ 0 ∷ [])) ≡ front extendable ++ (ws ++ zeros)
   all-elements =
-      map-append (customization extendable ++ values ws) (0 ∷ 0 ∷ 0 ∷ [])
-      ∙ ap (λ l. l ++ zeros) (map-append (customization extendable) (values ws) ∙ ap (λ l. front extendable ++ l) (elements-values ws))
+      map-append element (customization extendable ++ values ws) (0 ∷ 0 ∷ 0 ∷ [])
+      ∙ ap (λ l. l ++ zeros) (map-append element (customization extendable) (values ws) ∙ ap (λ l. front extendable ++ l) (elements-values ws))
       ∙ append_assoc (front extendable) ws zeros
 
   pub check-value : values check ≡ check_words_of (customization extendable ++ values ws)
@@ -66,15 +70,15 @@ module _ (extendable : Bool) (ws : List Gf1024) (u v w : Gf1024)
 
   state-value : (x : Gf1024) (rest : List Gf1024) → val x (coefficients extendable (values (ws ++ rest))) ≡ at x (state x) rest
   state-value x rest =
-      words-value x extendable (ws ++ rest) ∙ after-append sum product x (at x (element 1) (front extendable)) ws rest
+      words-value x extendable (ws ++ rest) ∙ fold-append _ (at x (element 1) (front extendable)) ws rest
 
   left-value : (x : Gf1024) → Root x → at x (element 0) (u ∷ v ∷ w ∷ []) ≡ at x (state x) zeros
   left-value x h =
       ap (at x (element 0)) is
       ∙ Division.steps-value laws x (element 1) (element 14) (element 56) (element 64) h (element 0) (element 0) (element 1) (front extendable ++ (ws ++ zeros))
       ∙ ap (λ y. at x y (front extendable ++ (ws ++ zeros))) (one_value x)
-      ∙ after-append sum product x (element 1) (front extendable) (ws ++ zeros)
-      ∙ after-append sum product x (at x (element 1) (front extendable)) ws zeros
+      ∙ fold-append _ (element 1) (front extendable) (ws ++ zeros)
+      ∙ fold-append _ (at x (element 1) (front extendable)) ws zeros
 
   check-one : (x : Gf1024) → Root x → at x (state x) check ≡ element 1
   check-one x h = Division.closes laws x (state x) u v w (element 1) (left-value x h)

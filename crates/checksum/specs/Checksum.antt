@@ -1,7 +1,9 @@
 -- The checksum of a card's words.
-use Rattle.std.specs.Prelude.{◌≡◌, ℕ, ◌+◌, ◌≤◌, Bool, true, false, cond, ◌&&◌, List, [], ◌∷◌, ◌++◌, map, length, codes, ◌==◌}
+use Rattle.std.specs.Prelude.{◌≡◌, ℕ, ◌+◌, ◌≤◌, Bool, false, cond, List, [], ◌∷◌, ◌++◌, map, length, codes, ◌==◌}
+use Rattle.std.specs.Str.{bytes_eq}
 use Rattle.field.specs.declared.gf1024.Gf1024.{Gf1024}
 use Rattle.field.specs.Gf1024.{element, sum, product}
+use Rattle.checksum.specs.declared.Remainder.{Remainder}
 use Rattle.checksum.specs.Values.{values}
 use Rattle.field.specs.Polynomial.{times_root, plus_constant, remainder}
 
@@ -25,16 +27,13 @@ times_generator q = times_root_at 2 (times_root_at 4 (times_root_at 8 q))
 abbrev pub remainder_of : List Gf1024 → List Gf1024
 remainder_of cs = remainder sum product (times_generator (element 1 ∷ [])) cs
 
--- whether two lists are the same
-abbrev pub equal_numbers : List ℕ → List ℕ → Bool
-equal_numbers [] [] = true
-equal_numbers [] (n ∷ ns) = false
-equal_numbers (m ∷ ms) [] = false
-equal_numbers (m ∷ ms) (n ∷ ns) = m == n && equal_numbers ms ns
+-- the coefficients of a remainder, the highest first
+abbrev pub left : Remainder → List Gf1024
+left remainder = remainder.high ∷ remainder.middle ∷ remainder.low ∷ []
 
 -- whether the remainder is 1: its three coefficients are 0, 0 and 1
 abbrev pub is_right : Bool → List ℕ → Bool
-is_right extendable words = equal_numbers (values (remainder_of (coefficients extendable words))) (0 ∷ 0 ∷ 1 ∷ [])
+is_right extendable words = bytes_eq (values (remainder_of (coefficients extendable words))) (0 ∷ 0 ∷ 1 ∷ [])
 
 -- the polynomial is (x - a)·(x - a^2)·(x - a^3)·q + 1 for some q
 abbrev pub Right : Bool → List ℕ → Type 0

@@ -1,5 +1,6 @@
 -- Horner's rule gives the value of a polynomial.
-use Rattle.std.proofs.Common.{◌≡◌, ℕ, ◌+◌, ◌<◌, ◌≤◌, List, [], ◌∷◌, ◌++◌, length, get_or, drop, Option, sym, refl, ap, ◌∙◌, ap₂, add-one, arith, drop-cons}
+use Rattle.std.proofs.Common.{◌≡◌, ℕ, ◌+◌, ◌<◌, ◌≤◌, List, [], ◌∷◌, length, get_or, drop, Option, sym, refl, ap, ◌∙◌, ap₂, add-one, arith, drop-cons}
+use Rattle.std.specs.List.{fold}
 use lib.Seq.{drop-length}
 use Rattle.field.specs.Laws.{Laws}
 use Rattle.field.specs.Polynomial.{power, value_at}
@@ -7,18 +8,7 @@ use Rattle.field.proofs.FieldRing as Ring
 
 -- the value at x of `value`, followed by the coefficients
 abbrev pub after : {F : Type 0} → (F → F → F) → (F → F → F) → F → F → List F → F
-after sum product x value [] = value
-after sum product x value (c ∷ cs) = after sum product x (sum c (product x value)) cs
-
-pub after-append : {F : Type 0} (sum product : F → F → F) (x value : F) (cs ds : List F)
-    → after sum product x value (cs ++ ds) ≡ after sum product x (after sum product x value cs) ds
-after-append sum product x value [] ds = refl
-after-append sum product x value (c ∷ cs) ds = after-append sum product x (sum c (product x value)) cs ds
-
--- one coefficient more, from the product and the sum
-pub after-step : {F : Type 0} (sum product : F → F → F) (x value c times plus : F) (cs : List F) → times ≡ product x value → plus ≡ sum c times
-    → after sum product x value (c ∷ cs) ≡ after sum product x plus cs
-after-step sum product x value c times plus cs t p = ap (λ y. after sum product x y cs) (sym (p ∙ ap (sum c) t))
+after sum product x = fold (λ value c. sum c (product x value))
 
 module _ {F : Type 0} {zeroF one : F} {◌⊕◌ ◌⊗◌ : F → F → F} {inverse : F → Option F} (law : Laws zeroF one ◌⊕◌ ◌⊗◌ inverse) where
   infixl 60 ◌⊕◌

@@ -1,18 +1,12 @@
 -- A polynomial with at most n coefficients other than 0 and the roots a, a^2, .. a^n is 0.
 use Rattle.std.proofs.Common.{◌≡◌, ℕ, zero, suc, ◌+◌, ◌-◌, ◌<◌, ◌≤◌, List, [], ◌∷◌, length, Option, sym, refl, ap, ◌∙◌, ap₂, le_of_eq, not-suc-le-zero, suc-add, zero-add, arith}
 use native.Mathlib.Nat.{suc_inj}
+use Rattle.std.specs.List.{AllByRecursion}
+use Rattle.field.specs.Interpolation.{Distinct}
 use Rattle.field.specs.Laws.{Laws}
 use Rattle.field.specs.Polynomial.{power}
 use Rattle.field.proofs.FieldRing as Ring
 use Rattle.field.proofs.Horner.{after}
-
-abbrev pub Every : {F : Type 0} → (F → Type 0) → List F → Type 0
-Every P [] = Unit {0}
-Every P (x ∷ xs) = P x × Every P xs
-
-abbrev pub Distinct : {F : Type 0} → List F → Type 0
-Distinct [] = Unit {0}
-Distinct (x ∷ xs) = Every (λ y. y ≡ x → ⊥) xs × Distinct xs
 
 -- at most n of the list's elements are not 0
 pub data Sparse {F : Type 0} (zeroF : F) : ℕ → List F → Type 0 where
@@ -88,22 +82,22 @@ module _ {F : Type 0} {zeroF one : F} {◌⊕◌ ◌⊗◌ : F → F → F} {inv
       ∙ ap (λ y. y ⊕ (w ⊗ (e ⊗ p))) (Ring.left_comm law e w p)
       ∙ law.sum_self (w ⊗ (e ⊗ p))
 
-  unscaled : (w : F) (zs es : List F) → length es ≡ length zs → Every (λ z. z ≡ w → ⊥) zs → Every (λ e. e ≡ zeroF) (scaled w zs es) → Every (λ e. e ≡ zeroF) es
+  unscaled : (w : F) (zs es : List F) → length es ≡ length zs → AllByRecursion (λ z. z ≡ w → ⊥) zs → AllByRecursion (λ e. e ≡ zeroF) (scaled w zs es) → AllByRecursion (λ e. e ≡ zeroF) es
   unfolding scaled
   unscaled w [] es n far all = all
   unscaled w (z ∷ zs) [] n far all = tt
   unscaled w (z ∷ zs) (e ∷ es) n far all =
       (Ring.cancel law (z ⊕ w) e (Ring.apart law z w far.0) (law.product_comm (z ⊕ w) e ∙ all.0), unscaled w zs es (suc_inj n) far.1 all.1)
 
-  moment_zero : (j : ℕ) (zs es : List F) → Every (λ e. e ≡ zeroF) es → moment j zs es ≡ zeroF
+  moment_zero : (j : ℕ) (zs es : List F) → AllByRecursion (λ e. e ≡ zeroF) es → moment j zs es ≡ zeroF
   unfolding moment
   moment_zero j [] es all = refl
   moment_zero j (z ∷ zs) [] all = refl
   moment_zero j (z ∷ zs) (e ∷ es) all =
       ap₂ ◌⊕◌ (ap (λ y. y ⊗ pow z j) all.0 ∙ Ring.zero_times law (pow z j)) (moment_zero j zs es all.1) ∙ law.sum_zero zeroF
 
-  pub all-zero : {n : ℕ} (zs es : List F) → length es ≡ length zs → Sparse zeroF n es → Distinct zs → Every (λ z. z ≡ zeroF → ⊥) zs
-      → ((j : ℕ) → j < n → moment (suc j) zs es ≡ zeroF) → Every (λ e. e ≡ zeroF) es
+  pub all-zero : {n : ℕ} (zs es : List F) → length es ≡ length zs → Sparse zeroF n es → Distinct zs → AllByRecursion (λ z. z ≡ zeroF → ⊥) zs
+      → ((j : ℕ) → j < n → moment (suc j) zs es ≡ zeroF) → AllByRecursion (λ e. e ≡ zeroF) es
   unfolding moment
   all-zero [] [] l s d far m = tt
   all-zero [] (e ∷ es) l s d far m = absurd (not-suc-le-zero (le_of_eq l))
@@ -114,7 +108,7 @@ module _ {F : Type 0} {zeroF one : F} {◌⊕◌ ◌⊗◌ : F → F → F} {inv
         (λ j k. sym (Ring.zero_sum law (moment (suc j) zs es)) ∙ ap (λ y. y ⊕ moment (suc j) zs es) (sym (ap (λ y. y ⊗ pow z (suc j)) h ∙ Ring.zero_times law (pow z (suc j)))) ∙ m j k),
   )
   all-zero (z ∷ zs) (e ∷ es) l (other s) d far m =
-      let rest : Every (λ x. x ≡ zeroF) es =
+      let rest : AllByRecursion (λ x. x ≡ zeroF) es =
       unscaled z zs es (suc_inj l) d.0
       (all-zero zs (scaled z zs es) (length-scaled z zs es ∙ suc_inj l) (sparse_scaled z zs s) d.1 far.1
       (λ j k. moment_scaled (suc j) z zs es
@@ -149,8 +143,8 @@ module _ {F : Type 0} {zeroF one : F} {◌⊕◌ ◌⊗◌ : F → F → F} {inv
       ∙ ap (λ y. y ⊕ ((e ⊗ p) ⊕ m))
       (ap (λ y. y ⊗ p) (law.product_comm x acc) ∙ law.product_assoc acc x p ∙ ap (λ y. acc ⊗ y) (sym (power-product a (pow a (length es)) j)))
 
-  pub roots_zero : (a : F) {n : ℕ} (es : List F) → Sparse zeroF n es → Distinct (places a (length es)) → Every (λ z. z ≡ zeroF → ⊥) (places a (length es))
-      → ((j : ℕ) → j < n → at (pow a (suc j)) zeroF es ≡ zeroF) → Every (λ e. e ≡ zeroF) es
+  pub roots_zero : (a : F) {n : ℕ} (es : List F) → Sparse zeroF n es → Distinct (places a (length es)) → AllByRecursion (λ z. z ≡ zeroF → ⊥) (places a (length es))
+      → ((j : ℕ) → j < n → at (pow a (suc j)) zeroF es ≡ zeroF) → AllByRecursion (λ e. e ≡ zeroF) es
   roots_zero a es s d far root =
       all-zero (places a (length es)) es (sym (length-places a (length es))) s d far
       (λ j k. sym (Ring.zero_sum law _) ∙ ap (λ y. y ⊕ moment (suc j) (places a (length es)) es) (sym (Ring.zero_times law _)) ∙ sym (after-moment a (suc j) zeroF es) ∙ root j k)
@@ -178,7 +172,7 @@ module _ {F : Type 0} {zeroF one : F} {◌⊕◌ ◌⊗◌ : F → F → F} {inv
           law.distributes p one q ∙ ap₂ ◌⊕◌ (law.product_one p) (sym same) ∙ law.sum_self p in
           order k (omega arith) (sym (Ring.equal law one q (Ring.cancel law p (one ⊕ q) (power-other m) gone)))
 
-      far-places : (n m : ℕ) → m ≤ n → n ≤ top → Every (λ y. y ≡ pow a n → ⊥) (places a m)
+      far-places : (n m : ℕ) → m ≤ n → n ≤ top → AllByRecursion (λ y. y ≡ pow a n → ⊥) (places a m)
       far-places n zero h t = tt
       far-places n (suc m) h t = ((λ e. power-apart m n h t e), far-places n m (omega arith) t)
 
@@ -186,7 +180,7 @@ module _ {F : Type 0} {zeroF one : F} {◌⊕◌ ◌⊗◌ : F → F → F} {inv
       distinct_places zero t = tt
       distinct_places (suc n) t = (far-places n n (omega arith) (omega arith), distinct_places n (omega arith))
 
-    pub other_places : (n : ℕ) → Every (λ z. z ≡ zeroF → ⊥) (places a n)
+    pub other_places : (n : ℕ) → AllByRecursion (λ z. z ≡ zeroF → ⊥) (places a n)
     other_places zero = tt
     other_places (suc n) = ((λ e. power-other n e), other_places n)
 
@@ -209,7 +203,7 @@ module _ {F : Type 0} {zeroF one : F} {◌⊕◌ ◌⊗◌ : F → F → F} {inv
       ap (λ v. at x v (difference xs ys)) (ap (λ v. (c ⊕ d) ⊕ v) (law.distributes x p q) ∙ Ring.swap_mid law c d (x ⊗ p) (x ⊗ q))
       ∙ after-difference x (c ⊕ (x ⊗ p)) (d ⊕ (x ⊗ q)) xs ys (suc_inj e)
 
-  pub no_difference : (xs ys : List F) → length xs ≡ length ys → Every (λ e. e ≡ zeroF) (difference xs ys) → xs ≡ ys
+  pub no_difference : (xs ys : List F) → length xs ≡ length ys → AllByRecursion (λ e. e ≡ zeroF) (difference xs ys) → xs ≡ ys
   no_difference [] [] l all = refl
   no_difference [] (y ∷ ys) l all = absurd (not-suc-le-zero (le_of_eq (sym l)))
   no_difference (x ∷ xs) [] l all = absurd (not-suc-le-zero (le_of_eq l))

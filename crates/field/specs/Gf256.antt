@@ -1,30 +1,33 @@
 -- The field of 256 elements: polynomials over two values modulo x^8 + x^4 + x^3 + x + 1.
-use Rattle.std.specs.Prelude.{ℕ, zero, suc, ◌%◌, cond, List, [], ◌∷◌, Some, None, Option, ◌==◌, bit_xor}
+use Rattle.std.specs.Prelude.{ℕ, zero, suc, ◌%◌, cond, List, [], ◌∷◌, Option, ◌==◌}
 use Rattle.std.proofs.Common.{mod-lt, lit<}
 use Rattle.field.specs.declared.gf256.Gf256.{Gf256}
-use Rattle.field.specs.CarryLess.{product_modulo, times_squares}
+use Rattle.field.specs.CarryLess as CarryLess
 
 -- the element with the value n modulo 256
 abbrev pub element : ℕ → Gf256
 element n = record { value = n % 256; bound = mod-lt n (lit< tt) }
 
+abbrev pub bits : Gf256 → ℕ
+bits a = a.value
+
 abbrev pub sum : Gf256 → Gf256 → Gf256
-sum a b = element (bit_xor a.value b.value)
+sum = CarryLess.sum element bits
 
 -- the product of two values; x^4 + x^3 + x + 1 is 27
 abbrev pub multiplied : ℕ → ℕ → ℕ
-multiplied a b = product_modulo 8 27 a b
+multiplied = CarryLess.product_modulo 8 27
 
 abbrev pub product : Gf256 → Gf256 → Gf256
-product a b = element (multiplied a.value b.value)
+product = CarryLess.product 8 27 element bits
 
 -- a^254, which is a^2 · a^4 · .. · a^128
 abbrev pub inverted : ℕ → ℕ
-inverted a = times_squares 8 27 7 a 1
+inverted = CarryLess.inverted 8 27
 
 -- the inverse, which 0 has not
 abbrev pub inverse : Gf256 → Option Gf256
-inverse a = cond (a.value == 0) None (Some (element (inverted a.value)))
+inverse = CarryLess.inverse 8 27 element bits
 
 -- ---- the tables of the product by logarithms
 -- n powers of 3, from p on

@@ -1,15 +1,15 @@
 -- The field of 256 elements obeys the laws of a field.
-use Rattle.std.specs.Prelude.{◌≡◌, ℕ, ◌<◌, T, bit_xor}
-use Rattle.std.proofs.Common.{mod-eq_of_lt, lit<}
+use Rattle.std.specs.Prelude.{◌≡◌, ℕ, ◌<◌, true}
+use Rattle.std.proofs.Common.{refl, mod-eq_of_lt, lit<}
+use Rattle.std.proofs.lemmas.Bool.{agree_below}
 use mathlib.Core.HLevel.{is_prop→PathP}
 use Rattle.std.proofs.Math.Bridge.{le_prop}
 use Rattle.field.specs.declared.gf256.Gf256.{Gf256}
-use Rattle.field.specs.CarryLess.{times_x, product_by, times_squares}
-use Rattle.field.specs.Gf256.{element, sum, multiplied, product, inverted, inverse}
+use Rattle.field.specs.CarryLess.{times_x, product_by, times_squares, IsRepresented}
+use Rattle.field.specs.Gf256.{element, bits, sum, product, inverse}
 use Rattle.field.specs.Laws.{Laws}
-use Rattle.field.specs.Below.{each}
-use Rattle.field.specs.CarryLessField as Carry
-use Rattle.field.specs.CarryLessField.{inverts}
+use Rattle.field.specs.CarryLessField as CarryLessField
+use Rattle.field.specs.CarryLessField.{inverts, times-inverted}
 
 -- an element is its value
 pub same : (a b : Gf256) → a.value ≡ b.value → a ≡ b
@@ -22,18 +22,19 @@ pub value-element : (n : ℕ) → n < 256 → (element n).value ≡ n
 value-element n h = mod-eq_of_lt h
 
 -- by computing it for each number
-all-invert : T (each (inverts 8 27 7) 256)
+all-invert : agree_below (inverts 8 27) (λ _. true) 256 ≡ true
 unfolding inverts times_x product_by times_squares
-all-invert = tt
+all-invert = refl
+
+pub represented : IsRepresented 8 27 element bits
+represented = record {
+  rest-lt = lit< tt;
+  one-lt = lit< tt;
+  bits-lt = λ a. a.bound;
+  bits-element = value-element;
+  element-bits = element-value;
+  times-inverted = times-inverted 8 27 all-invert;
+}
 
 pub laws : Laws (element 0) (element 1) sum product inverse
-laws = Carry.laws 7 27 7 (lit< tt) (lit< tt) all-invert element (λ a. a.value) (λ a. a.bound) value-element element-value
-
-pub sum-value : (a b : Gf256) → (sum a b).value ≡ bit_xor a.value b.value
-sum-value = Carry.sum-value 7 27 7 (lit< tt) (lit< tt) all-invert element (λ a. a.value) (λ a. a.bound) value-element element-value
-
-pub product_value : (a b : Gf256) → (product a b).value ≡ multiplied a.value b.value
-product_value = Carry.product_value 7 27 7 (lit< tt) (lit< tt) all-invert element (λ a. a.value) (λ a. a.bound) value-element element-value
-
-pub inverted-lt : (a : ℕ) → inverted a < 256
-inverted-lt a = Carry.times_squares-lt 8 27 (lit< tt) 7 a 1 (lit< tt)
+laws = CarryLessField.laws represented

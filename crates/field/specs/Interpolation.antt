@@ -4,10 +4,14 @@ use Rattle.std.specs.List.{AllByRecursion}
 use Rattle.field.specs.declared.interpolation.point.Point.{Point}
 use Rattle.field.specs.Polynomial.{value_at}
 
+-- x is none of these
+abbrev pub Absent : {A : Type 0} → A → List A → Type 0
+Absent x xs = AllByRecursion (λ y. y ≢ x) xs
+
 -- no two are equal
 abbrev pub Distinct : {A : Type 0} → List A → Type 0
 Distinct [] = Unit {0}
-Distinct (x ∷ xs) = AllByRecursion (λ y. y ≢ x) xs × Distinct xs
+Distinct (x ∷ xs) = Absent x xs × Distinct xs
 
 abbrev pub xs_of : {F : Type 0} → List (Point F) → List F
 xs_of points = map (λ p. p.x) points
@@ -25,6 +29,10 @@ module _ {F : Type 0} (zeroF oneF : F) (sum product : F → F → F) (inverse : 
   abbrev pub quotients : F → F → List F → F
   quotients x xi [] = oneF
   quotients x xi (xj ∷ xs) = product (quotient (sum x xj) (sum xi xj)) (quotients x xi xs)
+
+  -- nothing, as xi is one of these xj, or else a times that product
+  abbrev pub TimesQuotients : F → F → F → List F → Option F → Type 0
+  TimesQuotients a x xi xs r = MatchOption r (Absent xi xs → ⊥) (λ v. Absent xi xs × (v ≡ product a (quotients x xi xs)))
 
   -- the sum, over these points, of yi times the product over the x of all others: those before, and those after
   abbrev pub lagrange_after : F → List F → List (Point F) → F

@@ -6,7 +6,6 @@ pub mod CarryLess
 pub mod Gf256
 pub mod Gf1024
 -- Lemmas that the laws of this crate's impls are proved by: no contract cites them, and nobody has to believe them.
-pub mod Below
 pub mod CarryLessField
 pub mod CarryLessRing
 pub mod Gf1024Laws

@@ -13,6 +13,7 @@ pub struct Gf1024 {
 
 impl Gf1024 {
     /// The element with this value, where it is below 1,024.
+    // An `Option`, as of the library's `NonZero::new`: there is one way to fail.
     pub fn new(value: u16) -> Option<Gf1024>
         ensures { MatchOption result (1024 ≤ value) (λ n. n.value ≡ value) }
     {
@@ -20,15 +21,6 @@ impl Gf1024 {
             Some(Gf1024 { value })
         } else {
             None
-        }
-    }
-
-    /// The element with the value of a byte.
-    pub fn from_byte(value: u8) -> Gf1024
-        ensures { result.value ≡ value }
-    {
-        Gf1024 {
-            value: u16::from(value),
         }
     }
 

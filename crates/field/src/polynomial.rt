@@ -8,9 +8,7 @@ pub fn evaluate<F: Field>(x: F, first: F, coefficients: &[F]) -> F
     ensures { result ≡ value_at F.zero F.one F.sum F.product x (first ∷ coefficients.now) }
 {
     // Horner's rule.
-    let mut value = first;
-    for c in coefficients {
-        value = c.plus(x.times(value));
-    }
-    value
+    coefficients
+        .iter()
+        .fold(first, |value, c| c.plus(x.times(value)))
 }

@@ -24,7 +24,7 @@ returns c =
     ∙ divided-append z z one (front e) ws s.high s.middle s.low (c.of_customization.ensures ∙ remainder-divided z z one (front e)) in
     let to-zeros : l.high ∷ l.middle ∷ l.low ∷ [] ≡ divided z z one (front e ++ (ws ++ zeros)) =
     c.followed_by_all-remainder.ensures
-    ∙ ap (λ y. remainder_of (a.high ∷ a.middle ∷ a.low ∷ y ∷ y ∷ y ∷ [])) c.zero-zero.ensures
+    ∙ ap (λ y. remainder_of (a.high ∷ a.middle ∷ a.low ∷ y ∷ y ∷ y ∷ [])) c.zero.ensures
     ∙ remainder-divided a.high a.middle a.low zeros
     ∙ divided-append z z one (front e ++ ws) zeros a.high a.middle a.low to-words
     ∙ ap (divided z z one) (append_assoc (front e) ws zeros) in

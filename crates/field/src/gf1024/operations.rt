@@ -1,80 +1,61 @@
 ghost use Rattle.std.specs.Prelude.{◌≡◌, ◌<◌};
-ghost use Rattle.field.specs.Gf1024.{element, sum as sum_of, product as product_of, inverse as inverse_of, multiplied, inverted};
+ghost use Rattle.field.specs.Gf1024.{element as element_of, bits as bits_of};
 ghost use Rattle.field.specs.Gf1024Laws;
 
 use super::Gf1024;
-use crate::Field;
+use crate::binary::Binary;
 
-/// The product, bit by bit from the highest of `b`.
-fn multiply(a: u16, b: u16) -> u16
-    requires { (a < 1024) × (b < 1024) }
-    ensures { (result ≡ multiplied a b) × (result < 1024) }
-{
-    let mut product: u16 = 0;
-    for i in (0u32..10).rev() {
-        let doubled = product * 2;
-        // x^10 is x^3 + 1, which is 9.
-        let shifted = (doubled % 1024) ^ (doubled / 1024 % 2 * 9);
-        product = ((b >> i) % 2 * a) ^ shifted;
+/// Products bit by bit, modulo x^10 + x^3 + 1, whose lower terms are 9.
+impl Binary for Gf1024 {
+    ghost degree = { 10 };
+
+    ghost rest = { 9 };
+
+    ghost element = { element_of };
+
+    ghost bits = { bits_of };
+
+    ghost represented = { Gf1024Laws.represented };
+
+    fn from_bits(value: u16) -> Gf1024 {
+        Gf1024 { value }
     }
-    product
+
+    fn to_bits(self) -> u16 {
+        self.value
+    }
+
+    /// From the highest bit of `b` down.
+    fn multiply(a: u16, b: u16) -> u16 {
+        let mut product: u16 = 0;
+        for i in (0u32..10).rev() {
+            let doubled = product * 2;
+            // x^10 is x^3 + 1, which is 9.
+            let shifted = (doubled % 1024) ^ (doubled / 1024 % 2 * 9);
+            product = ((b >> i) % 2 * a) ^ shifted;
+        }
+        product
+    }
+
+    /// a^1022, which is a^2 · a^4 · .. · a^512.
+    fn invert(a: u16) -> u16 {
+        let mut square = a;
+        let mut power = 1;
+        for _i in 0u32..9 {
+            square = Gf1024::multiply(square, square);
+            power = Gf1024::multiply(power, square);
+        }
+        power
+    }
 }
 
-/// a^1022, which is a^2 · a^4 · .. · a^512.
-fn invert(a: u16) -> u16
-    requires { a < 1024 }
-    ensures { (result ≡ inverted a) × (result < 1024) }
-{
-    let mut square = a;
-    let mut power = 1;
-    for _i in 0u32..9 {
-        square = multiply(square, square);
-        power = multiply(power, square);
-    }
-    power
-}
+/// The element with the value of a byte.
+impl From<u8> for Gf1024 {
+    ghost from_gives = { λ byte element. (element.value ≡ byte) × (element ≡ element_of byte) };
 
-/// Polynomials over two values, modulo x^10 + x^3 + 1, are a field.
-impl Field for Gf1024 {
-    ghost zero = { element 0 };
-
-    ghost one = { element 1 };
-
-    ghost sum = { sum_of };
-
-    ghost product = { product_of };
-
-    ghost inverse = { inverse_of };
-
-    ghost laws = { Gf1024Laws.laws };
-
-    fn zero() -> Gf1024 {
-        Gf1024 { value: 0 }
-    }
-
-    fn one() -> Gf1024 {
-        Gf1024 { value: 1 }
-    }
-
-    fn plus(self, other: Gf1024) -> Gf1024 {
+    fn from(value: u8) -> Gf1024 {
         Gf1024 {
-            value: self.value ^ other.value,
-        }
-    }
-
-    fn times(self, other: Gf1024) -> Gf1024 {
-        Gf1024 {
-            value: multiply(self.value, other.value),
-        }
-    }
-
-    fn inverse(self) -> Option<Gf1024> {
-        if self.value == 0 {
-            None
-        } else {
-            Some(Gf1024 {
-                value: invert(self.value),
-            })
+            value: u16::from(value),
         }
     }
 }

@@ -1,71 +1,42 @@
 ghost use Rattle.std.specs.Prelude.{◌≡◌, ◌<◌};
-ghost use Rattle.field.specs.Gf256.{element, sum as sum_of, product as product_of, inverse as inverse_of, multiplied, inverted};
+ghost use Rattle.field.specs.Gf256.{element as element_of, bits as bits_of};
 ghost use Rattle.field.specs.Gf256Laws;
 
 use super::Gf256;
 use super::tables::{logarithm, power};
-use crate::Field;
+use crate::binary::Binary;
 
-/// The product, by logarithms.
-fn multiply(a: u8, b: u8) -> u8
-    ensures { result ≡ multiplied a b }
-{
-    if a == 0 || b == 0 {
-        0
-    } else {
-        power((logarithm(a) + logarithm(b)) % 255)
-    }
-}
+/// Products by logarithms, modulo x^8 + x^4 + x^3 + x + 1, whose lower terms are 27.
+impl Binary for Gf256 {
+    ghost degree = { 8 };
 
-/// The inverse, whose logarithm is the negative modulo 255.
-fn invert(a: u8) -> u8
-    requires { 0 < a }
-    ensures { result ≡ inverted a }
-{
-    power((255 - logarithm(a)) % 255)
-}
+    ghost rest = { 27 };
 
-/// Polynomials over two values, modulo x^8 + x^4 + x^3 + x + 1, are a field.
-impl Field for Gf256 {
-    ghost zero = { element 0 };
+    ghost element = { element_of };
 
-    ghost one = { element 1 };
+    ghost bits = { bits_of };
 
-    ghost sum = { sum_of };
+    ghost represented = { Gf256Laws.represented };
 
-    ghost product = { product_of };
-
-    ghost inverse = { inverse_of };
-
-    ghost laws = { Gf256Laws.laws };
-
-    fn zero() -> Gf256 {
-        Gf256 { value: 0 }
+    fn from_bits(value: u16) -> Gf256 {
+        Gf256 { value: value as u8 }
     }
 
-    fn one() -> Gf256 {
-        Gf256 { value: 1 }
+    fn to_bits(self) -> u16 {
+        u16::from(self.value)
     }
 
-    fn plus(self, other: Gf256) -> Gf256 {
-        Gf256 {
-            value: self.value ^ other.value,
-        }
-    }
-
-    fn times(self, other: Gf256) -> Gf256 {
-        Gf256 {
-            value: multiply(self.value, other.value),
-        }
-    }
-
-    fn inverse(self) -> Option<Gf256> {
-        if self.value == 0 {
-            None
+    /// The power of 3 whose logarithm is the sum, modulo 255.
+    fn multiply(a: u16, b: u16) -> u16 {
+        if a == 0 || b == 0 {
+            0
         } else {
-            Some(Gf256 {
-                value: invert(self.value),
-            })
+            power((logarithm(a) + logarithm(b)) % 255)
         }
+    }
+
+    /// The power of 3 whose logarithm is the negative, modulo 255.
+    fn invert(a: u16) -> u16 {
+        power((255 - logarithm(a)) % 255)
     }
 }

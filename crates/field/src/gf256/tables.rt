@@ -1,3 +1,5 @@
+#![tactic(auto, unfolding(crate::specs::Gf256::logarithms, crate::specs::Gf256::logarithms_from, crate::specs::Gf256::place_of, crate::specs::Gf256::powers, crate::specs::Gf256::powers_from, crate::specs::CarryLess::times_x, crate::specs::CarryLess::product_by))]
+
 ghost use Rattle.std.specs.Prelude.{◌≡◌, ◌<◌, slice_index};
 ghost use Rattle.field.specs.Gf256.{powers, logarithms};
 
@@ -36,16 +38,19 @@ const LOGARITHMS: [u8; 256] = [
 ];
 
 /// 3 to the power of the exponent.
-pub fn power(exponent: usize) -> u8
+pub fn power(exponent: usize) -> u16
     requires { exponent < 255 }
-    ensures { result ≡ slice_index powers exponent }
+    ensures value { result ≡ slice_index powers exponent }
+    ensures small { result < 256 }
 {
-    POWERS[exponent]
+    u16::from(POWERS[exponent])
 }
 
 /// The logarithm to base 3 of an element other than 0, by its value.
-pub fn logarithm(a: u8) -> usize
-    ensures { (result ≡ slice_index logarithms a) × (result < 256) }
+pub fn logarithm(a: u16) -> usize
+    requires { a < 256 }
+    ensures value { result ≡ slice_index logarithms a }
+    ensures small { result < 256 }
 {
     usize::from(LOGARITHMS[usize::from(a)])
 }

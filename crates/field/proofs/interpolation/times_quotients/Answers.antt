@@ -12,8 +12,3 @@ loop-other-preserved g c =
     Steps.quotients-more g.met.F.Field.laws c.args.x c.args.xi c.args.start c.loop-other.result c.times-result.result c.in_ok-divisor.divisor
     c.args.others.now c.loop-other.other-index c.other-item.result c.loop-other-test.true c.other-item.is
     (cc c.in_ok-divisor.was) (cc) c.loop-other.invariant
-
-pub returns : goal.returns
-returns g c =
-    Steps.quotients-all g.met.F.Field.laws c.args.x c.args.xi c.args.start c.loop-other.result c.args.others.now c.loop-other.other-index
-    c.loop-other.auto.other-index-end c.loop-other-test.false c.loop-other.invariant

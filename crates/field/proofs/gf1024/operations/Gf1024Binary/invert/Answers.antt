@@ -1,20 +1,20 @@
 -- The loop of `invert`.
 use Rattle.std.proofs.Common.{◌≡◌, suc, ◌+◌, ◌-◌, sym, ap, ◌∙◌, ap₂, arith}
 use Rattle.field.specs.CarryLess.{times_squares}
-use Rattle.field.proofs.gf1024.operations.invert.Goals as goal
+use Rattle.field.proofs.gf1024.operations.Gf1024Binary.invert.Goals as goal
 
 pub loop-i-preserved : goal.loop-i-preserved
 unfolding times_squares
 loop-i-preserved c =
     let more : 9 - c.loop-i._i ≡ suc (9 - (c.loop-i._i + 1)) = omega arith in (
       c.loop-i.invariant.0 ∙ ap (λ k. times_squares 10 9 k c.loop-i.square c.loop-i.power) more
-          ∙ ap₂ (times_squares 10 9 (9 - (c.loop-i._i + 1))) (sym c.multiply-square.ensures.0) (cc),
+          ∙ ap₂ (times_squares 10 9 (9 - (c.loop-i._i + 1))) (sym c.multiply-square.ensures.value) (cc),
       omega arith,
       omega arith,
     )
 
-pub returns : goal.returns
+pub returns-clause-value : goal.returns-clause-value
 unfolding times_squares
-returns c =
+returns-clause-value c =
     let z : 9 - c.loop-i._i ≡ 0 = omega arith in
-    (sym (c.loop-i.invariant.0 ∙ ap (λ k. times_squares 10 9 k c.loop-i.square c.loop-i.power) z), c.loop-i.invariant.2)
+    sym (c.loop-i.invariant.0 ∙ ap (λ k. times_squares 10 9 k c.loop-i.square c.loop-i.power) z)

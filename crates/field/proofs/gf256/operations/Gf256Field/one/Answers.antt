@@ -1,7 +1,0 @@
--- The value of one.
-use Rattle.std.proofs.Common.{refl}
-use Rattle.field.specs.Gf256Laws.{same}
-use Rattle.field.proofs.gf256.operations.Gf256Field.one.Goals as goal
-
-pub returns : goal.returns
-returns c = same _ _ refl
