@@ -16,6 +16,13 @@ too_long input = nat_lt 65536 (length input)
 abbrev pub too_short : List ℕ → ℕ → Bool
 too_short space size = nat_lt (length space) size
 
+-- what the check of an input answers, and that of a space for so many bytes
+abbrev pub input_answer : List ℕ → Result (Unit {0}) Refusal
+input_answer input = cond (too_long input) (Err InputTooLong) (Ok tt)
+
+abbrev pub space_answer : List ℕ → ℕ → Result (Unit {0}) Refusal
+space_answer space wanted = cond (too_short space wanted) (Err (SpaceTooShort layer.Digest wanted)) (Ok tt)
+
 -- long input is refused first, then a short space; else the count of the bytes written is answered
 abbrev pub answer_of : Bool → Bool → ℕ → Result ℕ Refusal
 answer_of long short size = cond long (Err InputTooLong) (cond short (Err (SpaceTooShort layer.Digest size)) (Ok size))

@@ -4,19 +4,16 @@ ghost use Rattle.digest.specs.Drill.{drill_digest};
 ghost use Rattle.digest.specs.Lanes.{lanes_bytes, bytes-append};
 ghost use Rattle.std.proofs.Common.{rules};
 
-use crate::keyed::{KeyedDigest, LONGEST_INPUT};
-use refusal::{Layer, Refusal};
+use crate::keyed::{KeyedDigest, check_input, check_space};
+use refusal::Refusal;
 
 fn lanes_of(key: &[u8], message: &[u8]) -> [u8; 4]
     requires { length key.now + length message.now < 2 ^ 64 }
     ensures { result ≡ drill_digest key.now message.now }
 {
     let mut lanes = [0; 4];
-    for (i, byte) in key.iter().enumerate() {
+    for (i, byte) in key.iter().chain(message).enumerate() {
         lanes[i % 4] ^= *byte;
-    }
-    for (j, byte) in message.iter().enumerate() {
-        lanes[(key.len() + j) % 4] ^= *byte;
     }
     lanes
 }
@@ -41,16 +38,10 @@ impl KeyedDigest for DrillDigest {
     }
 
     fn digest(&self, key: &[u8], message: &[u8], out: &mut [u8]) -> Result<usize, Refusal> {
-        if key.len() > LONGEST_INPUT || message.len() > LONGEST_INPUT {
-            return Err(Refusal::InputTooLong);
-        }
-        if out.len() < 4 {
-            return Err(Refusal::SpaceTooShort {
-                layer: Layer::Digest,
-                wanted: 4,
-            });
-        }
-        out[0..4].copy_from_slice(&lanes_of(key, message));
+        check_input(key)?;
+        check_input(message)?;
+        check_space(out, 4)?;
+        out[..4].copy_from_slice(&lanes_of(key, message));
         Ok(4)
     }
 }
