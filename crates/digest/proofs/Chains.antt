@@ -51,12 +51,11 @@ module _ (f : List ℕ → List ℕ) (L s : ℕ) (same : s ≡ L) (sized : (m : 
       let front : take s link ≡ link_at n = ap₂ take same el ∙ take_at (link_at n) (drop L link0) L (long-link n) in
       ap₂ take same en ∙ take_at (f (take s link)) (drop m rest) L (sized (take s link)) ∙ ap f front ∙ sym (link_more f (take L link0) n)
 
-  pub link_step : (n : ℕ) (link link' d : List ℕ) → link ≡ link_at n ++ drop L link0 → d ≡ link_at (n + 1) → link' ≡ d ++ drop s link → link' ≡ link_at (n + 1) ++ drop L link0
-  link_step n link link' d el ed e = e ∙ ap₂ ◌++◌ ed (ap₂ drop same el ∙ drop_at (link_at n) (drop L link0) L (long-link n))
+  pub link_step : (n : ℕ) (link d : List ℕ) → link ≡ link_at n ++ drop L link0 → d ≡ link_at (n + 1) → d ++ drop s link ≡ link_at (n + 1) ++ drop L link0
+  link_step n link d el ed = ap₂ ◌++◌ ed (ap₂ drop same el ∙ drop_at (link_at n) (drop L link0) L (long-link n))
 
-  pub total_step : (n : ℕ) (total total' d : List ℕ) → total ≡ total_at n ++ drop L total0 → d ≡ link_at (n + 1) → total' ≡ xors (take s total) d ++ drop s total → total' ≡ total_at (n + 1) ++ drop L total0
-  total_step n total total' d et ed e =
-      e
-      ∙ ap₂ ◌++◌
+  pub total_step : (n : ℕ) (total d : List ℕ) → total ≡ total_at n ++ drop L total0 → d ≡ link_at (n + 1) → xors (take s total) d ++ drop s total ≡ total_at (n + 1) ++ drop L total0
+  total_step n total d et ed =
+      ap₂ ◌++◌
       (ap₂ xors (ap₂ take same et ∙ take_at (total_at n) (drop L total0) L (long-total n)) ed ∙ sym (total_more f (take L link0) (take L total0) n))
       (ap₂ drop same et ∙ drop_at (total_at n) (drop L total0) L (long-total n))

@@ -1,13 +1,13 @@
 -- What a keyed digest answers, and what it leaves in the spaces lent to it.
 use Rattle.std.specs.Prelude.{ℕ, zero, suc, ◌<◌, Bool, cond, ◌||◌, List, [], ◌∷◌, ◌++◌, length, drop, Ok, Err, Result, bit_xor, nat_lt}
+use Rattle.std.specs.List.{AllByRecursion}
 use Rattle.refusal.specs.declared.layers.Layer.TheVariants as layer
 use Rattle.refusal.specs.declared.Refusal.{Refusal}
 use Rattle.refusal.specs.declared.Refusal.TheVariants.{InputTooLong, SpaceTooShort}
 
 -- each is a byte
 abbrev pub Bytes : List ℕ → Type 0
-Bytes [] = Unit {0}
-Bytes (x ∷ xs) = (x < 256) × Bytes xs
+Bytes xs = AllByRecursion (λ x. x < 256) xs
 
 -- a key and a message have at most 65,536 bytes
 abbrev pub too_long : List ℕ → Bool

@@ -1,7 +1,7 @@
 -- Whole blocks, then the end of a message with its padding.
 use Rattle.std.specs.Prelude.{◌≡◌, ℕ, zero, suc, ◌+◌, ◌-◌, ◌*◌, ◌/◌, ◌%◌, ◌^◌, ◌<◌, ◌≤◌, List, [], ◌∷◌, ◌++◌, length, take, drop, replicate, slice_index, slice_set, refl}
 use Rattle.std.proofs.Common.{sym, ap, ap₂, ◌∙◌, add-zero, add-suc, mod-lt, zero-lt-suc, add-one, arith}
-use Rattle.std.proofs.Math.Seq.{drop-append-add}
+use Rattle.std.proofs.Math.Seq.{take-append-add, drop-append-add}
 use Rattle.std.proofs.lemmas.List.{length-append, append_assoc, length-drop, take-append-le, drop-append-le, drop-drop, take-replicate, drop-replicate, set_at, take_more}
 use Rattle.digest.specs.Keyed.{Bytes}
 use Rattle.digest.specs.Sha256.{initial, compressed, words_of, block_of, hashed, padding, padded, zero_bytes, be32, be64, bytes_of, sha256}
@@ -68,35 +68,25 @@ be64-mod n =
     let e7 : y % 256 ≡ 8 * n % 256 = omega arith in
     cc
 
-take_past : (xs ys : List ℕ) (n k : ℕ) → n ≡ length xs + k → take n (xs ++ ys) ≡ xs ++ take k ys
-take_past [] ys n k e = ap (λ m. take m ys) (omega arith)
-take_past (x ∷ xs) ys zero k e = absurd (omega arith)
-take_past (x ∷ xs) ys (suc n) k e = ap (λ r. x ∷ r) (take_past xs ys n k (omega arith))
+cleared : (rest : List ℕ) (left : ℕ) → 128 - length rest ≡ suc left → rest ++ drop (length rest) (replicate 128 0) ≡ rest ++ 0 ∷ replicate left 0
+cleared rest left e = ap (λ v. rest ++ v) (drop-replicate (length rest) 128 0 ∙ ap (λ k. replicate k 0) e)
+
+filled_up : (rest : List ℕ) (left z m : ℕ) → m ≡ length rest + suc z → z ≤ left → take m (rest ++ 0x80 ∷ replicate left 0) ≡ rest ++ 0x80 ∷ replicate z 0
+filled_up rest left z m em le =
+    ap (λ k. take k (rest ++ 0x80 ∷ replicate left 0)) em ∙ take-append-add rest (0x80 ∷ replicate left 0) (suc z) ∙ ap (λ r. rest ++ 0x80 ∷ r) (take-replicate z left 0 le)
 
 -- the bytes of a space, after the rest of the message, the byte 0x80 and the number of bits were put in
-pub pad_is : (rest copied space eight : List ℕ) (total m : ℕ) → copied ≡ rest → space ≡ replicate 128 0 → eight ≡ be64 (8 * total) → length rest < 64 →
-    m ≡ length rest + suc (zero_bytes total) → m ≤ 120 → take m (slice_set (copied ++ drop (length rest) space) (length rest) 0x80) ++ eight ≡ rest ++ padding total
+pub pad_is : (rest copied space eight : List ℕ) (total left m : ℕ) → copied ≡ rest → space ≡ replicate 128 0 → eight ≡ be64 (8 * total) → 128 - length rest ≡ suc left →
+    m ≡ length rest + suc (zero_bytes total) → zero_bytes total ≤ left → take m (slice_set (copied ++ drop (length rest) space) (length rest) 0x80) ++ eight ≡ rest ++ padding total
 unfolding padding
-pad_is rest copied space eight total m ec es e8 short em small =
+pad_is rest copied space eight total left m ec es e8 el em le =
     let n : ℕ = length rest in
     let z : ℕ = zero_bytes total in
-    let left : ℕ = 127 - n in
-    let many : 128 - n ≡ suc left = omega arith in
-    let zeros : drop n (replicate 128 0) ≡ 0 ∷ replicate left 0 = drop-replicate n 128 0 ∙ ap (λ k. replicate k 0) many in
-    let was : copied ++ drop n space ≡ rest ++ 0 ∷ replicate left 0 = ap₂ (λ u v. u ++ drop n v) ec es ∙ ap (λ v. rest ++ v) zeros in
+    let was : copied ++ drop n space ≡ rest ++ 0 ∷ replicate left 0 = ap₂ (λ u v. u ++ drop n v) ec es ∙ cleared rest left el in
     let marked : slice_set (copied ++ drop n space) n 0x80 ≡ rest ++ 0x80 ∷ replicate left 0 =
     ap (λ u. slice_set u n 0x80) was ∙ set_at rest 0 (replicate left 0) 0x80 n refl in
-    let front : take m (rest ++ 0x80 ∷ replicate left 0) ≡ rest ++ 0x80 ∷ replicate z 0 =
-    take_past rest (0x80 ∷ replicate left 0) m (suc z) em ∙ ap (λ r. rest ++ 0x80 ∷ r) (take-replicate z left 0 (omega arith)) in
-    let joined : take m (slice_set (copied ++ drop n space) n 0x80) ≡ rest ++ 0x80 ∷ replicate z 0 = ap (take m) marked ∙ front in
-    ap₂ ◌++◌ joined e8 ∙ append_assoc rest (0x80 ∷ replicate z 0) (be64 (8 * total))
-
-bytes-append : (xs ys : List ℕ) → bytes_of (xs ++ ys) ≡ bytes_of xs ++ bytes_of ys
-bytes-append [] ys = refl
-bytes-append (x ∷ xs) ys = ap (λ r. be32 x ++ r) (bytes-append xs ys)
-
-pub bytes-more : (xs : List ℕ) (i : ℕ) → i < length xs → bytes_of (take (i + 1) xs) ≡ bytes_of (take i xs) ++ be32 (slice_index xs i)
-bytes-more xs i h = ap bytes_of (take_more xs i 0 h) ∙ bytes-append (take i xs) (slice_index xs i ∷ [])
+    let front : take m (slice_set (copied ++ drop n space) n 0x80) ≡ rest ++ 0x80 ∷ replicate z 0 = ap (take m) marked ∙ filled_up rest left z m em le in
+    ap₂ ◌++◌ front e8 ∙ append_assoc rest (0x80 ∷ replicate z 0) (be64 (8 * total))
 
 pub length-bytes : (xs : List ℕ) → length (bytes_of xs) ≡ 4 * length xs
 length-bytes [] = refl

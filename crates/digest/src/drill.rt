@@ -1,7 +1,8 @@
 //! The drill digest: quick to compute by hand, of no use against an attacker.
 ghost use Rattle.std.specs.Prelude.{◌≡◌, ◌+◌, ◌^◌, ◌<◌, ◌++◌, length};
 ghost use Rattle.digest.specs.Drill.{drill_digest};
-ghost use Rattle.digest.specs.Lanes.{lanes_bytes, bytes-append};
+ghost use Rattle.digest.specs.Lanes.{lanes_bytes};
+ghost use Rattle.std.proofs.ByRecursion.{All-append};
 ghost use Rattle.std.proofs.Common.{rules};
 
 use crate::keyed::{KeyedDigest, check_input, check_space};
@@ -31,7 +32,7 @@ impl KeyedDigest for DrillDigest {
 
     ghost sized = { Prim.search rules };
 
-    ghost bytes = { λ key message h k. lanes_bytes (key ++ message) (bytes-append key message h k) };
+    ghost bytes = { λ key message h k. lanes_bytes (key ++ message) (All-append _ key message h k) };
 
     fn length(&self) -> usize {
         4

@@ -33,16 +33,6 @@ pub(crate) fn check_space(space: &[u8], wanted: usize) -> Result<(), Refusal>
     Ok(())
 }
 
-// Makes the first `size` bytes of `next` the link, and combines them into the total.
-fn advance(next: &[u8], size: usize, link: &mut [u8], total: &mut [u8])
-    requires { (size ≤ length next.now) × (size ≤ length link.old) × (size ≤ length total.old) }
-    ensures last { link.new ≡ take size next.now ++ drop size link.old }
-    ensures sum { total.new ≡ xors (take size total.old) (take size next.now) ++ drop size total.old }
-{
-    link[..size].copy_from_slice(&next[..size]);
-    xor_into(&mut total[..size], &next[..size]);
-}
-
 /// A fixed function of a key and a message, whose result has a fixed length.
 pub trait KeyedDigest {
     // The function of key and message.
@@ -82,7 +72,8 @@ pub trait KeyedDigest {
         let mut next = [0; 64];
         for _ in 0..count {
             self.digest(key, &link[..size], &mut next)?;
-            advance(&next, size, link, total);
+            link[..size].copy_from_slice(&next[..size]);
+            xor_into(&mut total[..size], &next[..size]);
         }
         Ok(size)
     }

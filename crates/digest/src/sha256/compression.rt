@@ -34,6 +34,7 @@ fn round(v: [u32; 8], k: u32, w: u32) -> [u32; 8]
 }
 
 // The first sixteen rounds, under the words of the block.
+#[tactic(auto, unfolding(crate::specs::Parts::rounds_from))]
 fn first_rounds<const SITE: u8>(v: [u32; 8], w: [u32; 16]) -> [u32; 8]
     ensures { result ≡ rounds_from 0 16 w v }
 {
@@ -64,6 +65,7 @@ struct Sixteen {
 }
 
 // The words of the schedule after the 16 of `w`, and the rounds from `t` on under them.
+#[tactic(auto, unfolding(crate::specs::Parts::rounds_from))]
 fn next_rounds<const SITE: u8>(v: [u32; 8], w: [u32; 16], t: usize) -> Sixteen
     requires { t ≤ 48 }
     ensures words { NextWords w result.words }

@@ -33,6 +33,6 @@ loop-preserved g c =
     let next = next_is f D.size s same sized link total room room2 n c.loop.link c.digest.new.out c.in_ok-digest.field-0 c.loop.next c.loop.invariant.2 fresh in (
       omega arith,
       omega arith,
-      link_step f D.size s same sized link total room room2 n c.loop.link c.advance.new.link (take s c.digest.new.out) c.loop.invariant.2 next c.advance.ensures.last,
-      total_step f D.size s same sized link total room room2 n c.loop.total c.advance.new.total (take s c.digest.new.out) c.loop.invariant.3 next c.advance.ensures.sum,
+      link_step f D.size s same sized link total room room2 n c.loop.link c.copy_from_slice.new.self c.loop.invariant.2 (c.copy_from_slice.ensures.after ∙ next),
+      ap (λ x. x ++ drop s c.loop.total) c.xor_into.ensures ∙ total_step f D.size s same sized link total room room2 n c.loop.total (take s c.digest.new.out) c.loop.invariant.3 next,
     )

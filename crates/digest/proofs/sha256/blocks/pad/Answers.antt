@@ -26,4 +26,4 @@ returns-clause-holds c =
     let l4 : length copied ≡ n = ap length c.copy_from_slice.ensures.after in
     let l5 : length space ≡ 128 = ap length c.requires.clear ∙ length-replicate {A = ℕ} 128 0 in
     take-put_mid (end - 8) _ _ c.copy_from_slice-2.new.self end (omega (arith, ap length eight, low)) (omega (arith, l1, l2, l3, l4, l5, top))
-    ∙ pad_is rest copied space _ total (end - 8) c.copy_from_slice.ensures.after c.requires.clear eight (omega (arith, c.requires.left)) place (omega (arith, top))
+    ∙ pad_is rest copied space _ total (127 - n) (end - 8) c.copy_from_slice.ensures.after c.requires.clear eight (omega (arith, c.requires.left)) place (omega (arith, place, top))
