@@ -1,5 +1,5 @@
 -- The key's block, and HMAC from the hash values after it.
-use Rattle.std.proofs.Common.{◌≡◌, ℕ, ◌+◌, ◌-◌, ◌/◌, ◌<◌, ◌≤◌, List, ◌++◌, map, length, drop, replicate, sym, refl, ap, ◌∙◌, ap₂, inl, inr, arith, le-ltb, lt-ltb}
+use Rattle.std.proofs.Common.{◌≡◌, ℕ, ◌+◌, ◌-◌, ◌/◌, ◌<◌, ◌≤◌, List, ◌++◌, map, length, drop, replicate, sym, ap, ◌∙◌, ap₂, inl, inr, arith, le-ltb, lt-ltb}
 use lib.Bits.{bit_xor}
 use Rattle.std.proofs.lemmas.List.{drop-replicate, length-append, length-map, length-replicate, append_assoc}
 use Rattle.std.proofs.lemmas.Bool.{cases_lt}

@@ -1,10 +1,10 @@
 -- Whole blocks, then the end of a message with its padding.
-use Rattle.std.specs.Prelude.{◌≡◌, ℕ, zero, suc, ◌+◌, ◌-◌, ◌*◌, ◌/◌, ◌%◌, ◌^◌, ◌<◌, ◌≤◌, List, [], ◌∷◌, ◌++◌, length, take, drop, replicate, slice_index, slice_set, refl}
+use Rattle.std.specs.Prelude.{◌≡◌, ℕ, zero, suc, ◌+◌, ◌-◌, ◌*◌, ◌/◌, ◌%◌, ◌^◌, ◌<◌, ◌≤◌, List, [], ◌∷◌, ◌++◌, length, take, drop, replicate, slice_set, refl}
 use Rattle.std.proofs.Common.{sym, ap, ap₂, ◌∙◌, add-zero, add-suc, mod-lt, zero-lt-suc, add-one, arith}
 use Rattle.std.proofs.Math.Seq.{take-append-add, drop-append-add}
-use Rattle.std.proofs.lemmas.List.{length-append, append_assoc, length-drop, take-append-le, drop-append-le, drop-drop, take-replicate, drop-replicate, set_at, take_more}
+use Rattle.std.proofs.lemmas.List.{length-append, append_assoc, length-drop, take-append-le, drop-append-le, take-replicate, drop-replicate, set_at}
 use Rattle.digest.specs.Keyed.{Bytes}
-use Rattle.digest.specs.Sha256.{initial, compressed, words_of, block_of, hashed, padding, padded, zero_bytes, be32, be64, bytes_of, sha256}
+use Rattle.digest.specs.Sha256.{initial, compressed, words_of, block_of, hashed, padding, padded, zero_bytes, be64, bytes_of, sha256}
 use Rattle.digest.specs.Parts.{finished}
 
 pub hashed-none : (h p : List ℕ) → h ≡ hashed h 0 p

@@ -1,5 +1,5 @@
 -- No digest, or the chain on words.
-use Rattle.std.proofs.Common.{◌≡◌, ℕ, ◌<◌, List, ◌++◌, length, take, drop, replicate, sym, ap, ◌∙◌, ap₂, arith}
+use Rattle.std.proofs.Common.{◌≡◌, ℕ, List, ◌++◌, length, take, drop, replicate, sym, ap, ◌∙◌, ap₂, arith}
 use Rattle.std.proofs.lemmas.List.{take-append-drop, length-take-le}
 use Rattle.digest.specs.Keyed.{last_link, chain_total, xors}
 use Rattle.digest.specs.Sha256.{bytes_of, words_of, sha256}

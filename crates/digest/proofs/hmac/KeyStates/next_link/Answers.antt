@@ -1,7 +1,7 @@
 -- The inner compression, the outer one, and the end.
-use Rattle.std.proofs.Common.{◌≡◌, ℕ, List, [], ◌∷◌, get_or, ap, ◌∙◌, inl, inr, arith}
+use Rattle.std.proofs.Common.{◌≡◌, ℕ, List, [], ◌∷◌, get_or, ap, inl, inr, arith}
 use Rattle.std.proofs.lemmas.Bool.{cases_lt}
-use Rattle.digest.proofs.WordChains.{link_at, link_inner, link_outer}
+use Rattle.digest.proofs.WordChains.{link_inner, link_outer}
 use Rattle.digest.proofs.hmac.KeyStates.next_link.Goals as goal
 
 pub loop-state-preserved : goal.loop-state-preserved

@@ -1,5 +1,5 @@
 -- One digest more.
-use Rattle.std.proofs.Common.{◌≡◌, ◌++◌, take, drop, sym, refl, ap, ◌∙◌, arith}
+use Rattle.std.proofs.Common.{◌++◌, take, drop, sym, refl, ap, ◌∙◌, arith}
 use Rattle.std.proofs.lemmas.List.{take-append-drop}
 use Rattle.digest.proofs.Replies.{written-ok}
 use Rattle.digest.proofs.Chains.{link_none, total_none, next_is, link_step, total_step}
