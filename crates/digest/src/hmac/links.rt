@@ -31,7 +31,7 @@ struct Chained {
 }
 
 impl KeyStates {
-    // The digest of a digest: the inner compression, then the outer one.
+    // The digest of a digest: the inner compression, then the outer one, in a loop so that one place compresses.
     fn next_link(self, v: [u32; 8]) -> [u32; 8]
         ensures { result ≡ next_link self.inner self.outer v }
     {
