@@ -6,6 +6,7 @@ ghost use Rattle.digest.specs.Keyed.{xors};
 pub fn xor_into(target: &mut [u8], mask: &[u8])
     ensures { target.new ≡ xors target.old mask.now }
 {
+    // By index: of what `iter_mut().zip(..)` leaves in a slice the library says nothing.
     for i in 0..target.len().min(mask.len()) {
         target[i] ^= mask[i];
     }
