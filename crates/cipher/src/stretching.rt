@@ -1,5 +1,6 @@
 //! Stretching: PBKDF2 of RFC 8018 over any keyed digest, as a round function.
 ghost use Rattle.std.specs.Prelude.{◌≡◌, ◌+◌, ◌-◌, ◌^◌, ◌<◌, ◌≤◌, min, ◌∷◌, ◌++◌, length, take, replicate};
+ghost use Rattle.cipher.specs.Feistel.{with_parameters};
 ghost use Rattle.cipher.specs.Stretching.{int, combined, pbkdf2, password_of, salt_of, iterations, stretched};
 ghost use Rattle.std.proofs.Common.{arith};
 ghost use Rattle.std.proofs.lemmas.Nat.{pow_pos};
@@ -9,7 +10,7 @@ ghost use Rattle.cipher.specs.ByteLists.{bytes-salt, bytes-pbkdf2};
 use crate::round::{RoundFunction, check_round};
 use crate::wiped::Wiped;
 use digest::KeyedDigest;
-use numbers::{Exponent, Identifier, RoundNumber};
+use numbers::{Exponent, Identifier, Parameters, RoundNumber};
 use refusal::Refusal;
 
 // Adds `part` to the `at` bytes that `space` holds, and answers how many it holds then.
@@ -44,15 +45,15 @@ fn write_password(round: RoundNumber, passphrase: &[u8], space: &mut [u8]) -> us
 }
 
 // Writes the salt to the front of the space, and answers its length.
-fn write_salt(identifier: Identifier, extendable: bool, half: &[u8], space: &mut [u8]) -> usize
+fn write_salt(parameters: Parameters, half: &[u8], space: &mut [u8]) -> usize
     requires { 8 + length half.now ≤ length space.old }
     ensures end { result ≤ 8 + length half.now }
-    ensures holds { take result space.new ≡ salt_of identifier.value extendable half.now }
+    ensures holds { take result space.new ≡ salt_of parameters.identifier.value parameters.extendable half.now }
 {
     let mut end = 0;
-    if !extendable {
+    if !parameters.extendable {
         end = append(space, end, b"shamir");
-        end = append(space, end, &identifier.value.to_be_bytes());
+        end = append(space, end, &parameters.identifier.value.to_be_bytes());
     }
     append(space, end, half)
 }
@@ -162,9 +163,7 @@ impl<D: KeyedDigest> Stretching<D> {
         &self,
         round: RoundNumber,
         passphrase: &[u8],
-        identifier: Identifier,
-        extendable: bool,
-        exponent: Exponent,
+        parameters: Parameters,
         half: &[u8],
         password: &mut [u8],
         text: &mut [u8],
@@ -172,7 +171,7 @@ impl<D: KeyedDigest> Stretching<D> {
     )
         requires fits { (length passphrase.now ≤ 100) × (length half.now ≤ 32) × (length out.old ≡ length half.now) }
         requires room { (length password.old ≡ 101) × (length text.old ≡ 44) }
-        ensures writes { out.new ≡ stretched D.keyed D.size round.value passphrase.now identifier.value extendable exponent.value half.now }
+        ensures writes { out.new ≡ with_parameters (stretched D.keyed D.size) passphrase.now parameters round.value half.now }
         ensures wiped { (password.new ≡ replicate (length password.old) 0) × (text.new ≡ replicate (length text.old) 0) }
     {
         let size = self.digest.length();
@@ -181,12 +180,12 @@ impl<D: KeyedDigest> Stretching<D> {
         let key = Wiped { bytes: password };
         let salt = Wiped { bytes: text };
         let key_end = write_password(round, passphrase, key.bytes);
-        let salt_end = write_salt(identifier, extendable, half, salt.bytes);
+        let salt_end = write_salt(parameters, half, salt.bytes);
         derive(
             &self.digest,
             &key.bytes[0..key_end],
             &mut salt.bytes[0..salt_end + 4],
-            iteration_count(exponent),
+            iteration_count(parameters.exponent),
             &mut link[0..size],
             &mut total[0..size],
             out,
@@ -211,9 +210,7 @@ impl<D: KeyedDigest> RoundFunction for Stretching<D> {
         &self,
         round: RoundNumber,
         passphrase: &[u8],
-        identifier: Identifier,
-        extendable: bool,
-        exponent: Exponent,
+        parameters: Parameters,
         half: &[u8],
         out: &mut [u8],
     ) -> Result<usize, Refusal> {
@@ -223,9 +220,7 @@ impl<D: KeyedDigest> RoundFunction for Stretching<D> {
         self.stretch(
             round,
             passphrase,
-            identifier,
-            extendable,
-            exponent,
+            parameters,
             half,
             &mut password,
             &mut text,

@@ -1,10 +1,14 @@
--- A refusal, and success.
-use Rattle.std.proofs.Common.{rules}
+-- The four rounds, and what undoes them.
+use Rattle.std.proofs.Common.{ap, ◌∙◌}
+use Rattle.cipher.specs.Answers.{replaced}
+use Rattle.cipher.specs.Feistel.{numbers_of}
 use Rattle.cipher.proofs.Inverse.{undone}
+use Rattle.cipher.proofs.Turned.{network_in_rounds}
 use Rattle.cipher.proofs.feistel.decrypt.Goals as goal
 
-pub returns-in_err-length : goal.returns-in_err-length
-returns-in_err-length g c = record { answer = search rules; writes = search rules; undone = undone _ }
+pub returns-clause-writes : goal.returns-clause-writes
+returns-clause-writes g c =
+    c.replace.ensures.writes ∙ ap (λ x. replaced c.replace.result x c.args.secret.now) (network_in_rounds _ _ 3 2 1 0 _ (ap numbers_of c.reverse.ensures.after))
 
-pub returns : goal.returns
-returns g c = record { answer = search rules; writes = search rules; undone = undone _ }
+pub returns-clause-undone : goal.returns-clause-undone
+returns-clause-undone g c = undone _

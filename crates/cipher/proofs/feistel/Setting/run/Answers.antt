@@ -1,14 +1,32 @@
--- Four rounds.
-use Rattle.std.proofs.Common.{ℕ, List, arith, rules}
-use Rattle.cipher.specs.Feistel.{under}
-use Rattle.cipher.proofs.Turned.{network-in-place}
+-- One round more, and the end.
+use Rattle.std.proofs.Common.{◌≡◌, ℕ, ◌+◌, ◌-◌, ◌/◌, ◌<◌, ◌≤◌, List, ◌++◌, length, get_or, take, drop, sym, ap, ◌∙◌, arith}
+use Rattle.std.proofs.lemmas.List.{at_drop_more, at_drop_all}
+use Rattle.numbers.specs.declared.RoundNumber.{RoundNumber}
+use Rattle.cipher.specs.Feistel.{with_parameters, Halves, halved, turned, right_then_left, numbers_of, all_turned, in_rounds}
 use Rattle.cipher.proofs.feistel.Setting.run.Goals as goal
 
-pub returns : goal.returns
-returns g c =
-    let me = c.args.self.now in
-    let F : ℕ → List ℕ → List ℕ = under g.F.RoundFunction.function me.passphrase.now me.identifier.value me.extendable me.exponent.value in
-    let done = network-in-place F c.args.first.value c.args.second.value c.args.third.value c.args.fourth.value
-    c.args.secret.now c.turn.new.secret c.turn-2.new.secret c.turn-3.new.secret c.turn-4.new.secret c.rotate_left.new.self
-    (omega arith) c.turn.ensures c.turn-2.ensures c.turn-3.ensures c.turn-4.ensures c.rotate_left.ensures.after in
-    record { writes = done; wiped = search rules }
+one_more : (F : ℕ → List ℕ → List ℕ) (order : List RoundNumber) (i : ℕ) (round : RoundNumber) (before after : List ℕ) → i < length order →
+    halved after ≡ turned (F (get_or order i round).value) (halved before) → all_turned F (numbers_of (drop (i + 1) order)) (halved after) ≡ all_turned F (numbers_of (drop i order)) (halved before)
+one_more F order i round before after h e =
+    ap (all_turned F (numbers_of (drop (i + 1) order))) e
+    ∙ sym (at_drop_more (λ (rounds : List RoundNumber). all_turned F (numbers_of rounds) (halved before)) order i round h)
+
+none_left : (F : ℕ → List ℕ → List ℕ) (order : List RoundNumber) (i half : ℕ) (m turned after : List ℕ) → length order ≤ i → half ≡ length turned / 2 →
+    all_turned F (numbers_of (drop i order)) (halved turned) ≡ all_turned F (numbers_of order) (halved m) → after ≡ drop half turned ++ take half turned → after ≡ in_rounds F (numbers_of order) m
+none_left F order i half m turned after h e left is =
+    is ∙ ap (λ n. drop n turned ++ take n turned) e
+    ∙ ap right_then_left (sym (at_drop_all (λ (rounds : List RoundNumber). all_turned F (numbers_of rounds) (halved turned)) order i h) ∙ left)
+
+pub loop-round-preserved : goal.loop-round-preserved
+loop-round-preserved g c =
+    let F = with_parameters g.F.RoundFunction.function c.args.self.now.passphrase.now c.args.self.now.parameters in
+    record {
+      room = omega (arith, c.turn.auto.mask, c.loop-round.invariant.room);
+      left = one_more F c.args.order c.loop-round.round-index c.round-item.result c.loop-round.secret c.turn.new.secret (omega arith) c.turn.ensures ∙ c.loop-round.invariant.left;
+    }
+
+pub returns-clause-writes : goal.returns-clause-writes
+returns-clause-writes g c =
+    let F = with_parameters g.F.RoundFunction.function c.args.self.now.passphrase.now c.args.self.now.parameters in
+    none_left F c.args.order c.loop-round.round-index (length c.args.work.now) c.args.secret.now c.loop-round.secret c.rotate_left.new.self (omega arith) (omega arith)
+    c.loop-round.invariant.left c.rotate_left.ensures.after

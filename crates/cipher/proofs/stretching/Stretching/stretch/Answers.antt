@@ -19,9 +19,9 @@ pub returns : goal.returns
 returns g c =
     let D = g.D.KeyedDigest in
     let password : List ℕ = password_of c.args.round.value c.args.passphrase.now in
-    let salt : List ℕ = salt_of c.args.identifier.value c.args.extendable c.args.half.now in
+    let salt : List ℕ = salt_of c.args.parameters.identifier.value c.args.parameters.extendable c.args.half.now in
     let key : take (c.write_password-key_end.result - 0) c.write_password-key_end.new.space ≡ password =
     ap (λ k. take k c.write_password-key_end.new.space) (sub-zero c.write_password-key_end.result) ∙ c.write_password-key_end.ensures.holds in
     let text = salt_before c.write_salt-salt_end.new.space salt c.write_salt-salt_end.result (omega arith) c.write_salt-salt_end.ensures.holds in
-    let made = derived_same D.keyed D.size _ password _ salt _ (iterations c.args.exponent.value) _ (length c.args.half.now) key text c.iteration_count.ensures.value c.requires.fits.2 in
+    let made = derived_same D.keyed D.size _ password _ salt _ (iterations c.args.parameters.exponent.value) _ (length c.args.half.now) key text c.iteration_count.ensures.value c.requires.fits.2 in
     record { writes = c.derive.ensures.writes ∙ made; wiped = search rules }
