@@ -3,4 +3,5 @@ pub mod Inverse
 pub mod Applied
 pub mod Turned
 pub mod Chained
+pub mod Filled
 pub mod Zeros

@@ -5,6 +5,7 @@ mod drill;
 mod exports;
 mod feistel;
 mod passphrase;
+mod pbkdf2;
 mod round;
 mod stretching;
 mod wiped;
