@@ -1,5 +1,5 @@
 //! Stretching: PBKDF2 of RFC 8018 over any keyed digest, as a round function.
-ghost use Rattle.std.specs.Prelude.{◌≡◌, ◌+◌, ◌-◌, ◌^◌, ◌<◌, ◌≤◌, min, ◌∷◌, ◌++◌, length, take, replicate};
+ghost use Rattle.std.specs.Prelude.{◌≡◌, ◌+◌, ◌<◌, ◌≤◌, ◌∷◌, length, take, replicate};
 ghost use Rattle.cipher.specs.Feistel.{with_parameters};
 ghost use Rattle.cipher.specs.Stretching.{password_of, salt_prefix, salt_of, iterations, stretched};
 ghost use Rattle.std.proofs.Common.{arith};

@@ -1,8 +1,8 @@
 -- One round more, and the end.
-use Rattle.std.proofs.Common.{◌≡◌, ℕ, ◌+◌, ◌-◌, ◌/◌, ◌<◌, ◌≤◌, List, ◌++◌, length, get_or, take, drop, sym, ap, ◌∙◌, arith}
+use Rattle.std.proofs.Common.{◌≡◌, ℕ, ◌+◌, ◌/◌, ◌<◌, ◌≤◌, List, ◌++◌, length, get_or, take, drop, sym, ap, ◌∙◌, arith}
 use Rattle.std.proofs.lemmas.List.{at_drop_more, at_drop_all}
 use Rattle.numbers.specs.declared.RoundNumber.{RoundNumber}
-use Rattle.cipher.specs.Feistel.{with_parameters, Halves, halved, turned, right_then_left, numbers_of, all_turned, in_rounds}
+use Rattle.cipher.specs.Feistel.{with_parameters, halved, turned, right_then_left, numbers_of, all_turned, in_rounds}
 use Rattle.cipher.proofs.feistel.Setting.run.Goals as goal
 
 one_more : (F : ℕ → List ℕ → List ℕ) (order : List RoundNumber) (i : ℕ) (round : RoundNumber) (before after : List ℕ) → i < length order →

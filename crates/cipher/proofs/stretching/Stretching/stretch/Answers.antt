@@ -1,8 +1,7 @@
 -- The password, the salt and what is derived from them.
-use Rattle.std.proofs.Common.{◌≡◌, ℕ, ◌+◌, ◌-◌, ◌≤◌, List, length, take, ap, ◌∙◌, ap₂, arith, rules}
-use native.Mathlib.Nat.{sub-zero}
+use Rattle.std.proofs.Common.{◌≡◌, ℕ, ◌+◌, ◌-◌, ◌≤◌, List, length, take, ap, ◌∙◌, arith}
 use Rattle.std.proofs.lemmas.List.{length-take-le, take-take}
-use Rattle.cipher.specs.Stretching.{pbkdf2, password_of, salt_of, iterations}
+use Rattle.cipher.specs.Stretching.{pbkdf2}
 use Rattle.cipher.proofs.stretching.Stretching.stretch.Goals as goal
 
 -- a salt with four bytes after it
