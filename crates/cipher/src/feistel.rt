@@ -87,6 +87,7 @@ fn check_secret(passphrase: &[u8], secret: &[u8]) -> Result<usize, Refusal>
 
 /// Encrypts the secret in place, and answers how many bytes it has.
 /// A length that is odd or not 16 to 64 is refused first, then the passphrase; a refusal leaves the secret as it was.
+#[tactic(auto, using(crate::proofs::Inverse::undone), unfolding(crate::specs::Feistel::network))]
 pub fn encrypt<F: RoundFunction>(
     function: &F,
     passphrase: &[u8],
@@ -107,6 +108,7 @@ pub fn encrypt<F: RoundFunction>(
 
 /// Decrypts the secret in place, and answers how many bytes it has.
 /// A length that is odd or not 16 to 64 is refused first, then the passphrase; a refusal leaves the secret as it was.
+#[tactic(auto, using(crate::proofs::Inverse::undone), unfolding(crate::specs::Feistel::network))]
 pub fn decrypt<F: RoundFunction>(
     function: &F,
     passphrase: &[u8],
