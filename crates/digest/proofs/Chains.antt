@@ -1,6 +1,5 @@
 -- One digest more in a chain of digests.
-use Rattle.std.proofs.Common.{◌≡◌, ℕ, zero, suc, ◌+◌, ◌-◌, ◌≤◌, List, ◌++◌, length, take, drop, sym, refl, ap, ◌∙◌, ap₂, add-one}
-use native.Mathlib.Nat.{sub-zero}
+use Rattle.std.proofs.Common.{◌≡◌, ℕ, zero, suc, ◌+◌, ◌≤◌, List, ◌++◌, length, take, drop, sym, refl, ap, ◌∙◌, ap₂, add-one}
 use Rattle.std.proofs.lemmas.List.{take_at, drop_at, length-take-le}
 use Rattle.digest.specs.Keyed.{last_link, chain_total, xors}
 use Rattle.digest.proofs.Xors.{length-xors}
@@ -47,17 +46,16 @@ module _ (f : List ℕ → List ℕ) (L s : ℕ) (same : s ≡ L) (sized : (m : 
   long-total n = length-total f (take L link0) (take L total0) n ∙ length-take-le L total0 (rw (sym same) room2)
 
   -- the digest of the link, in front of another space
-  pub next_is : (n : ℕ) (link next : List ℕ) (m : ℕ) (rest : List ℕ) → link ≡ link_at n ++ drop L link0 → next ≡ f (take (s - 0) link) ++ drop m rest → take s next ≡ link_at (n + 1)
+  pub next_is : (n : ℕ) (link next : List ℕ) (m : ℕ) (rest : List ℕ) → link ≡ link_at n ++ drop L link0 → next ≡ f (take s link) ++ drop m rest → take s next ≡ link_at (n + 1)
   next_is n link next m rest el en =
-      let front : take (s - 0) link ≡ link_at n = ap₂ take (sub-zero s ∙ same) el ∙ take_at (link_at n) (drop L link0) L (long-link n) in
-      ap₂ take same en ∙ take_at (f (take (s - 0) link)) (drop m rest) L (sized (take (s - 0) link)) ∙ ap f front ∙ sym (link_more f (take L link0) n)
+      let front : take s link ≡ link_at n = ap₂ take same el ∙ take_at (link_at n) (drop L link0) L (long-link n) in
+      ap₂ take same en ∙ take_at (f (take s link)) (drop m rest) L (sized (take s link)) ∙ ap f front ∙ sym (link_more f (take L link0) n)
 
-  pub link_step : (n : ℕ) (link link' d : List ℕ) → link ≡ link_at n ++ drop L link0 → d ≡ link_at (n + 1) → link' ≡ d ++ drop s link → link' ≡ link_at (n + 1) ++ drop L link0
-  link_step n link link' d el ed e = e ∙ ap₂ ◌++◌ ed (ap₂ drop same el ∙ drop_at (link_at n) (drop L link0) L (long-link n))
+  pub link_step : (n : ℕ) (link d : List ℕ) → link ≡ link_at n ++ drop L link0 → d ≡ link_at (n + 1) → d ++ drop s link ≡ link_at (n + 1) ++ drop L link0
+  link_step n link d el ed = ap₂ ◌++◌ ed (ap₂ drop same el ∙ drop_at (link_at n) (drop L link0) L (long-link n))
 
-  pub total_step : (n : ℕ) (total total' d : List ℕ) → total ≡ total_at n ++ drop L total0 → d ≡ link_at (n + 1) → total' ≡ xors (take s total) d ++ drop s total → total' ≡ total_at (n + 1) ++ drop L total0
-  total_step n total total' d et ed e =
-      e
-      ∙ ap₂ ◌++◌
+  pub total_step : (n : ℕ) (total d : List ℕ) → total ≡ total_at n ++ drop L total0 → d ≡ link_at (n + 1) → xors (take s total) d ++ drop s total ≡ total_at (n + 1) ++ drop L total0
+  total_step n total d et ed =
+      ap₂ ◌++◌
       (ap₂ xors (ap₂ take same et ∙ take_at (total_at n) (drop L total0) L (long-total n)) ed ∙ sym (total_more f (take L link0) (take L total0) n))
       (ap₂ drop same et ∙ drop_at (total_at n) (drop L total0) L (long-total n))

@@ -1,6 +1,5 @@
 -- The key's block, and HMAC from the hash values after it.
-use Rattle.std.proofs.Common.{◌≡◌, ℕ, ◌+◌, ◌-◌, ◌/◌, ◌<◌, ◌≤◌, List, ◌++◌, map, length, drop, replicate, sym, refl, ap, ◌∙◌, ap₂, inl, inr, arith, le-ltb, lt-ltb}
-use native.Mathlib.Nat.{sub-zero}
+use Rattle.std.proofs.Common.{◌≡◌, ℕ, ◌+◌, ◌-◌, ◌/◌, ◌<◌, ◌≤◌, List, ◌++◌, map, length, drop, replicate, sym, ap, ◌∙◌, ap₂, inl, inr, arith, le-ltb, lt-ltb}
 use lib.Bits.{bit_xor}
 use Rattle.std.proofs.lemmas.List.{drop-replicate, length-append, length-map, length-replicate, append_assoc}
 use Rattle.std.proofs.lemmas.Bool.{cases_lt}
@@ -9,16 +8,16 @@ use Rattle.digest.specs.Hmac.{filled, key_block, hmac}
 use Rattle.digest.specs.Parts.{finished, key_state}
 use Rattle.digest.specs.Padding.{length-sha256, hashed-all}
 
-filled_is : (d block key : List ℕ) (n : ℕ) → block ≡ replicate 64 0 → d ≡ key → n ≡ length key → d ++ drop (n - 0) block ≡ filled key
-filled_is d block key n eb ed en = ap₂ ◌++◌ ed (ap₂ drop (sub-zero n ∙ en) eb ∙ drop-replicate (length key) 64 0)
+pub filled_is : (copied block key : List ℕ) → block ≡ replicate 64 0 → copied ≡ key → copied ++ drop (length key) block ≡ filled key
+filled_is copied block key eb ec = ap₂ ◌++◌ ec (ap (drop (length key)) eb ∙ drop-replicate (length key) 64 0)
 
-pub key_long : (d key block : List ℕ) → 64 < length key → block ≡ replicate 64 0 → d ≡ sha256 key → d ++ drop (32 - 0) block ≡ key_block sha256 key
+pub key_long : (key : List ℕ) → 64 < length key → filled (sha256 key) ≡ key_block sha256 key
 unfolding key_block
-key_long d key block h eb ed = filled_is d block (sha256 key) 32 eb ed (sym (length-sha256 key)) ∙ sym (rw (lt-ltb 64 (length key) h))
+key_long key h = sym (rw (lt-ltb 64 (length key) h))
 
-pub key_short : (d key block : List ℕ) → length key ≤ 64 → block ≡ replicate 64 0 → d ≡ key → d ++ drop (length key - 0) block ≡ key_block sha256 key
+pub key_short : (key : List ℕ) → length key ≤ 64 → filled key ≡ key_block sha256 key
 unfolding key_block
-key_short d key block h eb ed = filled_is d block key (length key) eb ed refl ∙ sym (rw (le-ltb 64 (length key) h))
+key_short key h = sym (rw (le-ltb 64 (length key) h))
 
 length-filled : (key : List ℕ) → length key ≤ 64 → length (filled key) ≡ 64
 length-filled key h =

@@ -6,3 +6,5 @@ pub mod BitLaws
 pub mod Windows
 pub mod Keys
 pub mod WordChains
+pub mod Made
+pub mod Joined

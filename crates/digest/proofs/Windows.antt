@@ -6,15 +6,6 @@ use Rattle.std.proofs.lemmas.List.FromFn.{fill_by_all}
 use Rattle.digest.specs.Sha256.{schedule, scheduled, rounds, round_of, constants, compressed, sum_words}
 use Rattle.digest.specs.Parts.{rounds_from, NextWords}
 
-pub rounds-none-from : (t : ℕ) (w v : List ℕ) → v ≡ rounds_from t 0 w v
-unfolding rounds_from
-rounds-none-from t w v = refl
-
-pub rounds-more-from : (t n : ℕ) (w v : List ℕ) {k x : ℕ} {u r : List ℕ} → u ≡ rounds_from t n w v → k ≡ get_or constants (t + n) 0 → x ≡ get_or w n 0 → r ≡ round_of k x u → r ≡ rounds_from t (suc n) w v
-unfolding rounds_from
-rounds-more-from t n w v {k} {x} {u} {r} eu ek ex er =
-    er ∙ ap (λ y. round_of y x u) ek ∙ ap (λ y. round_of (get_or constants (t + n) 0) y u) ex ∙ ap (round_of (get_or constants (t + n) 0) (get_or w n 0)) eu
-
 rounds-same-from : (t n : ℕ) (w u v : List ℕ) → ((i : ℕ) → i < n → get_or w i 0 ≡ get_or u i 0) → rounds_from t n w v ≡ rounds_from t n u v
 unfolding rounds_from
 rounds-same-from t zero w u v h = refl

@@ -14,10 +14,10 @@ use Rattle.digest.specs.Padding.{length-bytes}
 use Rattle.digest.proofs.Keys.{hmac-is}
 
 -- a list of n elements, one by one
-abbrev listed : ℕ → List ℕ → List ℕ
+abbrev pub listed : ℕ → List ℕ → List ℕ
 listed n xs = map (λ i. get_or xs i 0) (range_with_len 0 n)
 
-listed-is : (n : ℕ) (xs : List ℕ) → length xs ≡ n → xs ≡ listed n xs
+pub listed-is : (n : ℕ) (xs : List ℕ) → length xs ≡ n → xs ≡ listed n xs
 listed-is n xs h = fill_by_all (λ i. get_or xs i 0) xs n 0 h (λ k lt. refl)
 
 pub xors-eight : (x y : List ℕ) → length x ≡ 8 → length y ≡ 8 → xors (listed 8 x) (listed 8 y) ≡ xors x y

@@ -1,13 +1,13 @@
 -- What a keyed digest answers, and what it leaves in the spaces lent to it.
 use Rattle.std.specs.Prelude.{ℕ, zero, suc, ◌<◌, Bool, cond, ◌||◌, List, [], ◌∷◌, ◌++◌, length, drop, Ok, Err, Result, bit_xor, nat_lt}
+use Rattle.std.specs.List.{AllByRecursion}
 use Rattle.refusal.specs.declared.layers.Layer.TheVariants as layer
 use Rattle.refusal.specs.declared.Refusal.{Refusal}
 use Rattle.refusal.specs.declared.Refusal.TheVariants.{InputTooLong, SpaceTooShort}
 
 -- each is a byte
 abbrev pub Bytes : List ℕ → Type 0
-Bytes [] = Unit {0}
-Bytes (x ∷ xs) = (x < 256) × Bytes xs
+Bytes xs = AllByRecursion (λ x. x < 256) xs
 
 -- a key and a message have at most 65,536 bytes
 abbrev pub too_long : List ℕ → Bool
@@ -15,6 +15,13 @@ too_long input = nat_lt 65536 (length input)
 
 abbrev pub too_short : List ℕ → ℕ → Bool
 too_short space size = nat_lt (length space) size
+
+-- what the check of an input answers, and that of a space for so many bytes
+abbrev pub input_answer : List ℕ → Result (Unit {0}) Refusal
+input_answer input = cond (too_long input) (Err InputTooLong) (Ok tt)
+
+abbrev pub space_answer : List ℕ → ℕ → Result (Unit {0}) Refusal
+space_answer space wanted = cond (too_short space wanted) (Err (SpaceTooShort layer.Digest wanted)) (Ok tt)
 
 -- long input is refused first, then a short space; else the count of the bytes written is answered
 abbrev pub answer_of : Bool → Bool → ℕ → Result ℕ Refusal

@@ -1,22 +1,20 @@
 //! The drill digest: quick to compute by hand, of no use against an attacker.
 ghost use Rattle.std.specs.Prelude.{◌≡◌, ◌+◌, ◌^◌, ◌<◌, ◌++◌, length};
 ghost use Rattle.digest.specs.Drill.{drill_digest};
-ghost use Rattle.digest.specs.Lanes.{lanes_bytes, bytes-append};
+ghost use Rattle.digest.specs.Lanes.{lanes_bytes};
+ghost use Rattle.std.proofs.ByRecursion.{All-append};
 ghost use Rattle.std.proofs.Common.{rules};
 
-use crate::keyed::{KeyedDigest, LONGEST_INPUT};
-use refusal::{Layer, Refusal};
+use crate::keyed::{KeyedDigest, check_input, check_space};
+use refusal::Refusal;
 
 fn lanes_of(key: &[u8], message: &[u8]) -> [u8; 4]
     requires { length key.now + length message.now < 2 ^ 64 }
     ensures { result ≡ drill_digest key.now message.now }
 {
     let mut lanes = [0; 4];
-    for (i, byte) in key.iter().enumerate() {
+    for (i, byte) in key.iter().chain(message).enumerate() {
         lanes[i % 4] ^= *byte;
-    }
-    for (j, byte) in message.iter().enumerate() {
-        lanes[(key.len() + j) % 4] ^= *byte;
     }
     lanes
 }
@@ -34,23 +32,17 @@ impl KeyedDigest for DrillDigest {
 
     ghost sized = { Prim.search rules };
 
-    ghost bytes = { λ key message h k. lanes_bytes (key ++ message) (bytes-append key message h k) };
+    ghost bytes = { λ key message h k. lanes_bytes (key ++ message) (All-append _ key message h k) };
 
     fn length(&self) -> usize {
         4
     }
 
     fn digest(&self, key: &[u8], message: &[u8], out: &mut [u8]) -> Result<usize, Refusal> {
-        if key.len() > LONGEST_INPUT || message.len() > LONGEST_INPUT {
-            return Err(Refusal::InputTooLong);
-        }
-        if out.len() < 4 {
-            return Err(Refusal::SpaceTooShort {
-                layer: Layer::Digest,
-                wanted: 4,
-            });
-        }
-        out[0..4].copy_from_slice(&lanes_of(key, message));
+        check_input(key)?;
+        check_input(message)?;
+        check_space(out, 4)?;
+        out[..4].copy_from_slice(&lanes_of(key, message));
         Ok(4)
     }
 }

@@ -1,38 +1,41 @@
 //! HMAC-SHA-256 of FIPS 198-1.
-ghost use Rattle.std.specs.Prelude.{◌≡◌, map, bit_xor};
+ghost use Rattle.std.specs.Prelude.{◌≡◌, ◌+◌, ◌^◌, ◌<◌, ◌≤◌, length, map, bit_xor};
 ghost use Rattle.digest.specs.Sha256.{sha256};
-ghost use Rattle.digest.specs.Hmac.{key_block, hmac};
-ghost use Rattle.digest.specs.Parts.{key_state};
+ghost use Rattle.digest.specs.Hmac.{filled, key_block, hmac};
+ghost use Rattle.digest.specs.Parts.{finished, key_state};
 ghost use Rattle.digest.specs.Padding.{length-sha256, bytes-sha256};
 ghost use Rattle.std.proofs.Common.{rules};
 
 mod links;
 
-use crate::keyed::{KeyedDigest, LONGEST_INPUT};
+use crate::keyed::{KeyedDigest, check_input, check_space};
 use crate::sha256::{INITIAL, absorb, finish, sha256_of};
-use links::extend;
-use refusal::{Layer, Refusal};
+use refusal::Refusal;
+
+// The key with zeros after it, up to a block.
+fn filled(key: &[u8]) -> [u8; 64]
+    requires { length key.now ≤ 64 }
+    ensures { result ≡ filled key.now }
+{
+    let mut block = [0; 64];
+    block[..key.len()].copy_from_slice(key);
+    block
+}
 
 fn key_block(key: &[u8]) -> [u8; 64]
     ensures { result ≡ key_block sha256 key.now }
 {
-    let mut block = [0; 64];
     if key.len() > 64 {
-        block[0..32].copy_from_slice(&sha256_of(key));
+        filled(&sha256_of(key))
     } else {
-        block[0..key.len()].copy_from_slice(key);
+        filled(key)
     }
-    block
 }
 
 fn masked(block: [u8; 64], mask: u8) -> [u8; 64]
     ensures { result ≡ map (bit_xor mask) block }
 {
-    let mut out = block;
-    for i in 0..64 {
-        out[i] = mask ^ block[i];
-    }
-    out
+    block.map(|byte| mask ^ byte)
 }
 
 /// The hash values after the two blocks that a key is made into.
@@ -42,14 +45,24 @@ pub(crate) struct KeyStates {
     outer: [u32; 8],
 }
 
-fn prepare(key: &[u8]) -> KeyStates
-    ensures inner { result.inner ≡ key_state 0x36 key.now }
-    ensures outer { result.outer ≡ key_state 0x5c key.now }
-{
-    let block = key_block(key);
-    KeyStates {
-        inner: absorb(INITIAL, &masked(block, 0x36)),
-        outer: absorb(INITIAL, &masked(block, 0x5c)),
+impl KeyStates {
+    fn of_key(key: &[u8]) -> KeyStates
+        ensures inner { result.inner ≡ key_state 0x36 key.now }
+        ensures outer { result.outer ≡ key_state 0x5c key.now }
+    {
+        let block = key_block(key);
+        KeyStates {
+            inner: absorb(INITIAL, &masked(block, 0x36)),
+            outer: absorb(INITIAL, &masked(block, 0x5c)),
+        }
+    }
+
+    // The digest of a message under the key.
+    fn digest(self, message: &[u8]) -> [u8; 32]
+        requires { 64 + length message.now < 2 ^ 64 }
+        ensures { result ≡ finished self.outer 64 (finished self.inner 64 message.now) }
+    {
+        finish(self.outer, 64, &finish(self.inner, 64, message))
     }
 }
 
@@ -73,18 +86,10 @@ impl KeyedDigest for HmacSha256 {
     }
 
     fn digest(&self, key: &[u8], message: &[u8], out: &mut [u8]) -> Result<usize, Refusal> {
-        if key.len() > LONGEST_INPUT || message.len() > LONGEST_INPUT {
-            return Err(Refusal::InputTooLong);
-        }
-        if out.len() < 32 {
-            return Err(Refusal::SpaceTooShort {
-                layer: Layer::Digest,
-                wanted: 32,
-            });
-        }
-        let states = prepare(key);
-        let inner = finish(states.inner, 64, message);
-        out[0..32].copy_from_slice(&finish(states.outer, 64, &inner));
+        check_input(key)?;
+        check_input(message)?;
+        check_space(out, 32)?;
+        out[..32].copy_from_slice(&KeyStates::of_key(key).digest(message));
         Ok(32)
     }
 
@@ -95,20 +100,12 @@ impl KeyedDigest for HmacSha256 {
         link: &mut [u8],
         total: &mut [u8],
     ) -> Result<usize, Refusal> {
-        if key.len() > LONGEST_INPUT {
-            return Err(Refusal::InputTooLong);
+        check_input(key)?;
+        check_space(link, 32)?;
+        check_space(total, 32)?;
+        if count > 0 {
+            KeyStates::of_key(key).extend(count, &mut link[..32], &mut total[..32]);
         }
-        if link.len() < 32 || total.len() < 32 {
-            return Err(Refusal::SpaceTooShort {
-                layer: Layer::Digest,
-                wanted: 32,
-            });
-        }
-        if count == 0 {
-            return Ok(32);
-        }
-        let states = prepare(key);
-        extend(states, count, &mut link[0..32], &mut total[0..32]);
         Ok(32)
     }
 }

@@ -1,6 +1,6 @@
 //! What every keyed digest is.
-ghost use Rattle.std.specs.Prelude.{◌≡◌, ℕ, ◌≤◌, List, ◌++◌, length, take, drop};
-ghost use Rattle.digest.specs.Keyed.{Bytes, digest_answer, chain_answer, written, last_link, chain_total, xors};
+ghost use Rattle.std.specs.Prelude.{◌≡◌, ℕ, ◌≤◌, List, ◌++◌, length, take, drop, OnOk};
+ghost use Rattle.digest.specs.Keyed.{Bytes, input_answer, space_answer, digest_answer, chain_answer, written, last_link, chain_total, xors};
 
 use crate::bytes::xor_into;
 use refusal::{Layer, Refusal};
@@ -8,14 +8,29 @@ use refusal::{Layer, Refusal};
 /// The most bytes that a key or a message may have.
 pub const LONGEST_INPUT: usize = 65_536;
 
-// Makes the first `size` bytes of `next` the link, and combines them into the total.
-fn advance(next: &[u8], size: usize, link: &mut [u8], total: &mut [u8])
-    requires { (size ≤ length next.now) × (size ≤ length link.old) × (size ≤ length total.old) }
-    ensures last { link.new ≡ take size next.now ++ drop size link.old }
-    ensures sum { total.new ≡ xors (take size total.old) (take size next.now) ++ drop size total.old }
+// Refuses input that is longer than allowed.
+pub(crate) fn check_input(input: &[u8]) -> Result<(), Refusal>
+    ensures answer { result ≡ input_answer input.now }
+    ensures fits { OnOk result (length input.now ≤ 65536) }
 {
-    link[0..size].copy_from_slice(&next[0..size]);
-    xor_into(&mut total[0..size], &next[0..size]);
+    if input.len() > LONGEST_INPUT {
+        return Err(Refusal::InputTooLong);
+    }
+    Ok(())
+}
+
+// Refuses a space that is too short for `wanted` bytes.
+pub(crate) fn check_space(space: &[u8], wanted: usize) -> Result<(), Refusal>
+    ensures answer { result ≡ space_answer space.now wanted }
+    ensures fits { OnOk result (wanted ≤ length space.now) }
+{
+    if space.len() < wanted {
+        return Err(Refusal::SpaceTooShort {
+            layer: Layer::Digest,
+            wanted,
+        });
+    }
+    Ok(())
 }
 
 /// A fixed function of a key and a message, whose result has a fixed length.
@@ -51,19 +66,14 @@ pub trait KeyedDigest {
         ensures sum { total.new ≡ written result (chain_total (keyed key.now) (take size link.old) (take size total.old) count) total.old }
     {
         let size = self.length();
-        if key.len() > LONGEST_INPUT {
-            return Err(Refusal::InputTooLong);
-        }
-        if link.len() < size || total.len() < size {
-            return Err(Refusal::SpaceTooShort {
-                layer: Layer::Digest,
-                wanted: size,
-            });
-        }
+        check_input(key)?;
+        check_space(link, size)?;
+        check_space(total, size)?;
         let mut next = [0; 64];
-        for _i in 0..count {
-            self.digest(key, &link[0..size], &mut next)?;
-            advance(&next, size, link, total);
+        for _ in 0..count {
+            self.digest(key, &link[..size], &mut next)?;
+            link[..size].copy_from_slice(&next[..size]);
+            xor_into(&mut total[..size], &next[..size]);
         }
         Ok(size)
     }

@@ -7,6 +7,7 @@ ghost use Rattle.digest.specs.Parts.{digest_block, next_link};
 use super::KeyStates;
 use crate::bytes::xor_into;
 use crate::sha256::{compress, load, store};
+use std::array;
 
 // The last block of a message that has one block before it and ends with the digest of these words.
 fn digest_block(v: [u32; 8]) -> [u32; 16]
@@ -19,9 +20,7 @@ fn digest_block(v: [u32; 8]) -> [u32; 16]
 fn xor_words(x: [u32; 8], y: [u32; 8]) -> [u32; 8]
     ensures { result ≡ xors x y }
 {
-    let [a, b, c, d, e, f, g, h] = x;
-    let [i, j, k, l, m, n, o, p] = y;
-    [a ^ i, b ^ j, c ^ k, d ^ l, e ^ m, f ^ n, g ^ o, h ^ p]
+    array::from_fn(|i| x[i] ^ y[i])
 }
 
 // The words of the last digest of a chain, and the exclusive or of all.
@@ -31,48 +30,44 @@ struct Chained {
     sum: [u32; 8],
 }
 
-// The digest of a digest: the inner compression, then the outer one.
-fn next_link(states: KeyStates, v: [u32; 8]) -> [u32; 8]
-    ensures { result ≡ next_link states.inner states.outer v }
-{
-    let mut value = v;
-    for step in 0..2u8 {
-        let state = if step == 0 {
-            states.inner
-        } else {
-            states.outer
-        };
-        let next = compress::<1>(state, digest_block(value));
-        value = next;
+impl KeyStates {
+    // The digest of a digest: the inner compression, then the outer one.
+    fn next_link(self, v: [u32; 8]) -> [u32; 8]
+        ensures { result ≡ next_link self.inner self.outer v }
+    {
+        let KeyStates { inner, outer } = self;
+        let mut value = v;
+        for state in [inner, outer] {
+            let next = compress::<1>(state, digest_block(value));
+            value = next;
+        }
+        value
     }
-    value
-}
 
-// Takes `count` further digests, the first of the digest of the words `first`.
-fn further_digests(states: KeyStates, first: [u32; 8], count: u32) -> Chained
-    ensures last { result.last ≡ last_link (next_link states.inner states.outer) first count }
-    ensures sum { result.sum ≡ chain_total (next_link states.inner states.outer) first (replicate 8 0) count }
-{
-    let mut last = first;
-    let mut sum = [0; 8];
-    for _i in 0..count {
-        let next = next_link(states, last);
-        let total = xor_words(sum, next);
-        last = next;
-        sum = total;
+    // Takes `count` further digests, the first of the digest of the words `first`.
+    fn further_digests(self, first: [u32; 8], count: u32) -> Chained
+        ensures last { result.last ≡ last_link (next_link self.inner self.outer) first count }
+        ensures sum { result.sum ≡ chain_total (next_link self.inner self.outer) first (replicate 8 0) count }
+    {
+        let mut last = first;
+        let mut sum = [0; 8];
+        for _ in 0..count {
+            let next = self.next_link(last);
+            let total = xor_words(sum, next);
+            last = next;
+            sum = total;
+        }
+        Chained { last, sum }
     }
-    Chained { last, sum }
-}
 
-/// Takes `count` further digests of the digest in `link`. The last is left there, and all are combined into `total`.
-pub(crate) fn extend(states: KeyStates, count: u32, link: &mut [u8], total: &mut [u8])
-    requires { (length link.old ≡ 32) × (length total.old ≡ 32) }
-    ensures last { link.new ≡ bytes_of (last_link (next_link states.inner states.outer) (words_of 8 link.old) count) }
-    ensures sum { total.new ≡ xors total.old (bytes_of (chain_total (next_link states.inner states.outer) (words_of 8 link.old) (replicate 8 0) count)) }
-{
-    let chained = further_digests(states, load(link), count);
-    store(chained.last, link);
-    let mut sum = [0; 32];
-    store(chained.sum, &mut sum);
-    xor_into(total, &sum);
+    /// Takes `count` further digests of the digest in `link`. The last is left there, and all are combined into `total`.
+    pub(crate) fn extend(self, count: u32, link: &mut [u8], total: &mut [u8])
+        requires { (length link.old ≡ 32) × (length total.old ≡ 32) }
+        ensures last { link.new ≡ bytes_of (last_link (next_link self.inner self.outer) (words_of 8 link.old) count) }
+        ensures sum { total.new ≡ xors total.old (bytes_of (chain_total (next_link self.inner self.outer) (words_of 8 link.old) (replicate 8 0) count)) }
+    {
+        let chained = self.further_digests(load(link), count);
+        link.copy_from_slice(&store(chained.last));
+        xor_into(total, &store(chained.sum));
+    }
 }

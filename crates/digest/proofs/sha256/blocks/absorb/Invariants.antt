@@ -1,7 +1,7 @@
--- The hash value after k blocks.
+-- The hash value after so many blocks.
 use Rattle.std.proofs.Common.{◌≡◌}
 use Rattle.digest.specs.Sha256.{hashed}
 use Rattle.digest.proofs.sha256.blocks.absorb.Given as goal
 
-abbrev pub invariant-loop-k : goal.invariant-loop-k
-invariant-loop-k l = l.value ≡ hashed l.initial.value l.k l.blocks
+abbrev pub invariant-loop-block : goal.invariant-loop-block
+invariant-loop-block l = l.value ≡ hashed l.initial.value l.block-index l.bytes

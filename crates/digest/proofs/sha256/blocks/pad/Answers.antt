@@ -1,27 +1,29 @@
 -- The rest, the byte 0x80, zeros and the number of bits.
-use Rattle.std.proofs.Common.{◌≡◌, ℕ, ◌+◌, ◌-◌, ◌≤◌, List, ◌++◌, length, take, ap, ◌∙◌, arith}
-use Rattle.digest.specs.Sha256.{zero_bytes}
+use Rattle.std.proofs.Common.{◌≡◌, ℕ, ◌+◌, ◌-◌, ◌*◌, ◌≤◌, suc, List, ◌++◌, length, drop, ap, ◌∙◌, arith}
+use Rattle.std.proofs.lemmas.List.{length-set, length-append, length-drop, length-replicate}
+use Rattle.std.proofs.lemmas.Slice.{take-put_mid}
+use Rattle.digest.specs.Sha256.{zero_bytes, be64}
 use Rattle.digest.specs.Padding.{pad_is, be64-mod}
 use Rattle.digest.proofs.sha256.blocks.pad.Goals as goal
-use Rattle.digest.proofs.sha256.blocks.pad.Goals.{then-at-le56, else-at-le56}
+use Rattle.digest.proofs.sha256.blocks.pad.Goals.{then-at-lt56, else-at-lt56}
 
-pub returns : goal.returns
-returns c =
+pub returns-clause-holds : goal.returns-clause-holds
+returns-clause-holds c =
     let rest : List ℕ = c.args.rest.now in
+    let space : List ℕ = c.args.space.now in
+    let copied : List ℕ = c.copy_from_slice.new.self in
+    let n : ℕ = length rest in
     let total : ℕ = c.args.total in
-    let at : ℕ = c.append-at.result in
-    let at2 : ℕ = c.append-at-2.result in
-    let m : ℕ = c.if-at-le56.end - 8 in
-    let tail2 : List ℕ = c.append-at-2.new.space in
-    let first : at ≡ length rest = omega (arith, c.append-at.ensures.end) in
-    let second : at2 ≡ at + 1 = c.append-at-2.ensures.end in
-    let place : m ≡ at2 + zero_bytes total =
-    elim c.if-at-le56.branch [ then-at-le56 w ↦ omega (arith, w.end-is, w.if-at-le56.true) | else-at-le56 w ↦ omega (arith, w.end-is, w.if-at-le56.false) ] in
-    let small : m ≤ 120 = elim c.if-at-le56.branch [ then-at-le56 w ↦ omega (arith, w.end-is) | else-at-le56 w ↦ omega (arith, w.end-is) ] in
-    let bits = c.to_be_bytes.ensures ∙ be64-mod total in
-    let eight = ap length bits in
-    record {
-      end = elim c.if-at-le56.branch [ then-at-le56 w ↦ (omega (arith, w.end-is, eight), omega (arith, w.end-is, eight)) | else-at-le56 w ↦ (omega (arith, w.end-is, eight), omega (arith, w.end-is, eight)) ];
-      holds = pad_is rest total at at2 m c.append.result c.args.tail.now c.append-at.new.space tail2 c.append.new.space c.requires.clear second place small
-          c.append-at.ensures.holds c.append-at.ensures.keeps c.append-at-2.ensures.holds c.append-at-2.ensures.keeps (c.append.ensures.holds ∙ ap (λ r. take m tail2 ++ r) bits);
-    }
+    let end : ℕ = c.if-at-lt56.end in
+    let place : end - 8 ≡ n + suc (zero_bytes total) =
+    elim c.if-at-lt56.branch [ then-at-lt56 w ↦ omega (arith, w.end-is, w.if-at-lt56.true) | else-at-lt56 w ↦ omega (arith, w.end-is, w.if-at-lt56.false) ] in
+    let low : 8 ≤ end = elim c.if-at-lt56.branch [ then-at-lt56 w ↦ omega (arith, w.end-is) | else-at-lt56 w ↦ omega (arith, w.end-is) ] in
+    let top : end ≤ 128 = elim c.if-at-lt56.branch [ then-at-lt56 w ↦ omega (arith, w.end-is) | else-at-lt56 w ↦ omega (arith, w.end-is) ] in
+    let eight : c.copy_from_slice-2.new.self ≡ be64 (8 * total) = c.copy_from_slice-2.ensures.after ∙ c.to_be_bytes.ensures ∙ be64-mod total in
+    let l1 = length-set (copied ++ drop n space) n 128 in
+    let l2 = length-append copied (drop n space) in
+    let l3 = length-drop n space in
+    let l4 : length copied ≡ n = ap length c.copy_from_slice.ensures.after in
+    let l5 : length space ≡ 128 = ap length c.requires.clear ∙ length-replicate {A = ℕ} 128 0 in
+    take-put_mid (end - 8) _ _ c.copy_from_slice-2.new.self end (omega (arith, ap length eight, low)) (omega (arith, l1, l2, l3, l4, l5, top))
+    ∙ pad_is rest copied space _ total (127 - n) (end - 8) c.copy_from_slice.ensures.after c.requires.clear eight (omega (arith, c.requires.left)) place (omega (arith, place, top))

@@ -1,7 +1,7 @@
 -- The two states.
 use Rattle.std.proofs.Common.{arith}
 use Rattle.digest.proofs.Keys.{state-is}
-use Rattle.digest.proofs.hmac.prepare.Goals as goal
+use Rattle.digest.proofs.hmac.KeyStates.of_key.Goals as goal
 
 pub returns : goal.returns
 returns c = record {

@@ -1,7 +1,0 @@
--- The words after so many of the two compressions.
-use Rattle.std.proofs.Common.{◌≡◌}
-use Rattle.digest.proofs.WordChains.{link_at}
-use Rattle.digest.proofs.hmac.links.next_link.Given as goal
-
-abbrev pub invariant-loop-step : goal.invariant-loop-step
-invariant-loop-step l = l.value ≡ link_at l.states.inner l.states.outer l.initial.value l.step
