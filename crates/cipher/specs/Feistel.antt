@@ -1,5 +1,7 @@
 -- The cipher: four rounds over two halves. F i is what round i makes of a half.
-use Rattle.std.specs.Prelude.{◌≡◌, ℕ, ◌/◌, ◌%◌, Bool, true, cond, ◌&&◌, List, ◌++◌, length, take, drop, Ok, Err, Result, ◌==◌, nat_le}
+use Rattle.std.specs.Prelude.{◌≡◌, ℕ, ◌/◌, ◌%◌, Bool, true, cond, ◌&&◌, List, [], ◌∷◌, ◌++◌, map, length, take, drop, Ok, Err, Result, ◌==◌, nat_le}
+use Rattle.numbers.specs.declared.Parameters.{Parameters}
+use Rattle.numbers.specs.declared.RoundNumber.{RoundNumber}
 use Rattle.refusal.specs.declared.Refusal.{Refusal}
 use Rattle.refusal.specs.declared.Refusal.TheVariants.{SecretLength}
 use Rattle.digest.specs.Keyed.{xors}
@@ -9,6 +11,10 @@ use Rattle.cipher.specs.Passphrase.{passphrase_answer}
 -- a round function as the rounds of one secret use it, with all that stays the same from round to round
 abbrev pub under : (ℕ → List ℕ → ℕ → Bool → ℕ → List ℕ → List ℕ) → List ℕ → ℕ → Bool → ℕ → ℕ → List ℕ → List ℕ
 under function passphrase identifier extendable exponent i half = function i passphrase identifier extendable exponent half
+
+-- the same, with the parameters in one
+abbrev pub with_parameters : (ℕ → List ℕ → ℕ → Bool → ℕ → List ℕ → List ℕ) → List ℕ → Parameters → ℕ → List ℕ → List ℕ
+with_parameters function passphrase parameters = under function passphrase parameters.identifier.value parameters.extendable parameters.exponent.value
 
 pub record Halves : Type 0 where
   pub left : List ℕ
@@ -27,6 +33,17 @@ right_then_left h = h.right ++ h.left
 -- the rounds a, b, c and d in that order
 unfoldable pub network : (ℕ → List ℕ → List ℕ) → ℕ → ℕ → ℕ → ℕ → List ℕ → List ℕ
 network F a b c d m = right_then_left (turned (F d) (turned (F c) (turned (F b) (turned (F a) (halved m)))))
+
+abbrev pub numbers_of : List RoundNumber → List ℕ
+numbers_of order = map (λ (round : RoundNumber). round.value) order
+
+-- the rounds of a list, one after the other
+abbrev pub all_turned : (ℕ → List ℕ → List ℕ) → List ℕ → Halves → Halves
+all_turned F [] h = h
+all_turned F (i ∷ more) h = all_turned F more (turned (F i) h)
+
+abbrev pub in_rounds : (ℕ → List ℕ → List ℕ) → List ℕ → List ℕ → List ℕ
+in_rounds F order m = right_then_left (all_turned F order (halved m))
 
 abbrev pub encrypted : (ℕ → List ℕ → List ℕ) → List ℕ → List ℕ
 encrypted F m = network F 0 1 2 3 m

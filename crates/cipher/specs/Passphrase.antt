@@ -1,5 +1,5 @@
 -- Which passphrases are lawful, and where the others are refused.
-use Rattle.std.specs.Prelude.{ℕ, ◌+◌, Bool, cond, ◌&&◌, List, [], ◌∷◌, length, Some, None, Ok, Err, Option, Result, nat_le, nat_lt}
+use Rattle.std.specs.Prelude.{ℕ, Bool, not, cond, ◌&&◌, List, length, position, Some, None, Ok, Err, Option, Result, nat_le, nat_lt}
 use Rattle.refusal.specs.declared.Refusal.{Refusal}
 use Rattle.refusal.specs.declared.Refusal.TheVariants.{Passphrase}
 
@@ -7,10 +7,9 @@ use Rattle.refusal.specs.declared.Refusal.TheVariants.{Passphrase}
 abbrev pub is_printable : ℕ → Bool
 is_printable byte = nat_le 32 byte && nat_le byte 126
 
--- the position of the first byte that is not printable, the first byte being at i
-abbrev pub first_bad : ℕ → List ℕ → Option ℕ
-first_bad i [] = None
-first_bad i (byte ∷ more) = cond (is_printable byte) (first_bad (i + 1) more) (Some i)
+-- the position of the first byte that is not printable
+abbrev pub first_bad : List ℕ → Option ℕ
+first_bad passphrase = position (λ byte. not (is_printable byte)) passphrase
 
 -- a bad byte counts wherever it stands; a passphrase without one has at most 100 bytes
 abbrev pub passphrase_answer_at : Option ℕ → ℕ → Result (Unit {0}) Refusal
@@ -18,4 +17,4 @@ passphrase_answer_at (Some position) size = Err (Passphrase position)
 passphrase_answer_at None size = cond (nat_lt 100 size) (Err (Passphrase 100)) (Ok tt)
 
 abbrev pub passphrase_answer : List ℕ → Result (Unit {0}) Refusal
-passphrase_answer passphrase = passphrase_answer_at (first_bad 0 passphrase) (length passphrase)
+passphrase_answer passphrase = passphrase_answer_at (first_bad passphrase) (length passphrase)

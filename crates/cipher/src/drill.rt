@@ -1,30 +1,26 @@
 //! The drill round: quick to compute by hand, of no use against an attacker.
-ghost use Rattle.std.specs.Prelude.{◌≡◌, ◌+◌, ◌%◌, map, length, sum};
-ghost use Rattle.cipher.specs.Drill.{drill_round};
+ghost use Rattle.std.specs.Prelude.{◌≡◌, ◌+◌, ◌%◌, map, sum};
 ghost use Rattle.std.proofs.lemmas.List.{length-map};
+ghost use Rattle.cipher.specs.Drill.{drill_round};
 ghost use Rattle.cipher.specs.DrillBytes.{bytes-map};
 
 use crate::round::{RoundFunction, check_round};
-use numbers::{Exponent, Identifier, RoundNumber};
+use numbers::{Parameters, RoundNumber};
 use refusal::Refusal;
 
-fn sum_of(passphrase: &[u8]) -> u8
-    ensures { result ≡ sum passphrase.now % 256 }
+fn sum_of(bytes: &[u8]) -> u8
+    ensures { result ≡ sum bytes.now % 256 }
 {
-    let mut total: u8 = 0;
-    for byte in passphrase {
-        total = total.wrapping_add(*byte);
-    }
-    total
+    bytes
+        .iter()
+        .fold(0, |total: u8, byte| total.wrapping_add(*byte))
 }
 
-// Writes each byte of the half, with the addend.
-fn add_to_each(half: &[u8], addend: u8, out: &mut [u8])
-    requires { length out.old ≡ length half.now }
-    ensures { out.new ≡ map (λ byte. (byte + addend) % 256) half.now }
+fn add_to_each(bytes: &mut [u8], addend: u8)
+    ensures { bytes.new ≡ map (λ byte. (byte + addend) % 256) bytes.old }
 {
-    for (k, byte) in half.iter().enumerate() {
-        out[k] = byte.wrapping_add(addend);
+    for byte in bytes.iter_mut() {
+        *byte = byte.wrapping_add(addend);
     }
 }
 
@@ -43,15 +39,14 @@ impl RoundFunction for DrillRound {
         &self,
         round: RoundNumber,
         passphrase: &[u8],
-        _identifier: Identifier,
-        _extendable: bool,
-        _exponent: Exponent,
+        _parameters: Parameters,
         half: &[u8],
         out: &mut [u8],
     ) -> Result<usize, Refusal> {
         let length = check_round(passphrase, half, out)?;
         let addend = sum_of(passphrase).wrapping_add(round.value);
-        add_to_each(half, addend, &mut out[0..length]);
+        out[0..length].copy_from_slice(half);
+        add_to_each(&mut out[0..length], addend);
         Ok(length)
     }
 }

@@ -1,19 +1,17 @@
-//! Stretching as a C caller wants it, over two digests; the crate cipher_c exports it.
+//! Stretching as a C caller wants it; the crate cipher_c exports it over two digests.
 ghost use Rattle.std.specs.Prelude.{◌≡◌, ◌++◌, length, drop, if◌then◌else◌};
-ghost use Rattle.digest.specs.Drill.{drill_digest};
-ghost use Rattle.digest.specs.Hmac.{hmac};
-ghost use Rattle.digest.specs.Sha256.{sha256};
 ghost use Rattle.cipher.specs.Stretching.{stretched};
 ghost use Rattle.cipher.specs.Exports.{applies};
 
 use crate::round::RoundFunction;
 use crate::stretching::Stretching;
-use digest::{DrillDigest, HmacSha256};
-use numbers::{Exponent, Identifier, RoundNumber};
+use digest::KeyedDigest;
+use numbers::{Exponent, Identifier, Number, Parameters, RoundNumber};
 
-// Applies the round function, and answers true; false, with nothing written, if a number is out of range or it refuses.
-fn apply_to_numbers<F: RoundFunction>(
-    function: &F,
+/// Stretching for a C caller, which can pass any number: writes to the front of `out` and answers true; false, with nothing
+/// written, if a number is out of range or the input is refused.
+pub fn stretch_for_c<D: KeyedDigest + Copy>(
+    digest: &D,
     round: u8,
     passphrase: &[u8],
     identifier: u16,
@@ -23,76 +21,23 @@ fn apply_to_numbers<F: RoundFunction>(
     out: &mut [u8],
 ) -> bool
     ensures answer { result ≡ applies round passphrase.now identifier exponent half.now out.old }
-    ensures writes { out.new ≡ (if result then F.function round passphrase.now identifier extendable exponent half.now ++ drop (length half.now) out.old else out.old) }
+    ensures writes { out.new ≡ (if result then stretched D.keyed D.size round passphrase.now identifier extendable exponent half.now ++ drop (length half.now) out.old else out.old) }
 {
-    let Some(round) = RoundNumber::new(round) else {
+    let Some(round) = RoundNumber::new(u16::from(round)) else {
         return false;
     };
     let Some(identifier) = Identifier::new(identifier) else {
         return false;
     };
-    let Some(exponent) = Exponent::new(exponent) else {
+    let Some(exponent) = Exponent::new(u16::from(exponent)) else {
         return false;
     };
-    function
-        .apply(
-            round, passphrase, identifier, extendable, exponent, half, out,
-        )
-        .is_ok()
-}
-
-/// Stretching over HMAC-SHA-256 for a C caller: writes to the front of `out` and answers true; false, with nothing written,
-/// if a number is out of range or the input is refused.
-pub fn cipher_stretch_hmac_sha256(
-    round: u8,
-    passphrase: &[u8],
-    identifier: u16,
-    extendable: bool,
-    exponent: u8,
-    half: &[u8],
-    out: &mut [u8],
-) -> bool
-    ensures answer { result ≡ applies round passphrase.now identifier exponent half.now out.old }
-    ensures writes { out.new ≡ (if result then stretched (hmac sha256) 32 round passphrase.now identifier extendable exponent half.now ++ drop (length half.now) out.old else out.old) }
-{
-    let stretching = Stretching { digest: HmacSha256 };
-    apply_to_numbers(
-        &stretching,
-        round,
-        passphrase,
+    let parameters = Parameters {
         identifier,
         extendable,
         exponent,
-        half,
-        out,
-    )
-}
-
-/// Stretching over the drill digest for a C caller: writes to the front of `out` and answers true; false, with nothing written,
-/// if a number is out of range or the input is refused.
-pub fn cipher_stretch_drill(
-    round: u8,
-    passphrase: &[u8],
-    identifier: u16,
-    extendable: bool,
-    exponent: u8,
-    half: &[u8],
-    out: &mut [u8],
-) -> bool
-    ensures answer { result ≡ applies round passphrase.now identifier exponent half.now out.old }
-    ensures writes { out.new ≡ (if result then stretched drill_digest 4 round passphrase.now identifier extendable exponent half.now ++ drop (length half.now) out.old else out.old) }
-{
-    let stretching = Stretching {
-        digest: DrillDigest,
     };
-    apply_to_numbers(
-        &stretching,
-        round,
-        passphrase,
-        identifier,
-        extendable,
-        exponent,
-        half,
-        out,
-    )
+    Stretching { digest: *digest }
+        .apply(round, passphrase, parameters, half, out)
+        .is_ok()
 }

@@ -5,12 +5,13 @@ mod drill;
 mod exports;
 mod feistel;
 mod passphrase;
+mod pbkdf2;
 mod round;
 mod stretching;
 mod wiped;
 
 pub use drill::DrillRound;
-pub use exports::{cipher_stretch_drill, cipher_stretch_hmac_sha256};
+pub use exports::stretch_for_c;
 pub use feistel::{decrypt, encrypt};
 pub use passphrase::{LONGEST_PASSPHRASE, check_passphrase};
 pub use round::{RoundFunction, check_round};

@@ -10,18 +10,13 @@ pub const LONGEST_PASSPHRASE: usize = 100;
 fn is_printable(byte: u8) -> bool
     ensures { result ≡ is_printable byte }
 {
-    32 <= byte && byte <= 126
+    (32..=126).contains(&byte)
 }
 
 fn first_bad(passphrase: &[u8]) -> Option<usize>
-    ensures { result ≡ first_bad 0 passphrase.now }
+    ensures { result ≡ first_bad passphrase.now }
 {
-    for (i, byte) in passphrase.iter().enumerate() {
-        if !is_printable(*byte) {
-            return Some(i);
-        }
-    }
-    None
+    passphrase.iter().position(|byte| !is_printable(*byte))
 }
 
 /// Refuses a passphrase with a byte that is not 32 to 126, at the first of them wherever it stands,

@@ -2,9 +2,10 @@
 ghost use Rattle.std.specs.Prelude.{◌≡◌, ℕ, ◌<◌, ◌≤◌, Bool, List, length};
 ghost use Rattle.digest.specs.Keyed.{Bytes, written};
 ghost use Rattle.cipher.specs.Round.{round_answer};
+ghost use Rattle.cipher.specs.Feistel.{with_parameters};
 
 use crate::passphrase::check_passphrase;
-use numbers::{Exponent, Identifier, RoundNumber};
+use numbers::{Parameters, RoundNumber};
 use refusal::{Layer, Refusal};
 
 /// A fixed function of round number, passphrase, identifier, flag, exponent and half, whose result is as long as the half.
@@ -18,14 +19,12 @@ pub trait RoundFunction {
         &self,
         round: RoundNumber,
         passphrase: &[u8],
-        identifier: Identifier,
-        extendable: bool,
-        exponent: Exponent,
+        parameters: Parameters,
         half: &[u8],
         out: &mut [u8],
     ) -> Result<usize, Refusal>
         ensures answer { result ≡ round_answer passphrase.now half.now out.old }
-        ensures writes { out.new ≡ written result (function round.value passphrase.now identifier.value extendable exponent.value half.now) out.old };
+        ensures writes { out.new ≡ written result (with_parameters function passphrase.now parameters round.value half.now) out.old };
 
     ghost sized: { (number : ℕ) (phrase : List ℕ) (id : ℕ) (flag : Bool) (e : ℕ) (part : List ℕ) → 8 ≤ length part → length part ≤ 32 → length (function number phrase id flag e part) ≡ length part };
 
@@ -37,7 +36,7 @@ pub fn check_round(passphrase: &[u8], half: &[u8], out: &[u8]) -> Result<usize, 
     ensures answer { result ≡ round_answer passphrase.now half.now out.now }
 {
     let length = half.len();
-    if length < 8 || length > 32 {
+    if !(8..=32).contains(&length) {
         return Err(Refusal::SecretLength { length });
     }
     check_passphrase(passphrase)?;

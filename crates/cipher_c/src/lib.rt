@@ -8,6 +8,9 @@ ghost use Rattle.digest.specs.Sha256.{sha256};
 ghost use Rattle.cipher.specs.Stretching.{stretched};
 ghost use Rattle.cipher.specs.Exports.{applies};
 
+use cipher::stretch_for_c;
+use digest::{DrillDigest, HmacSha256};
+
 /// Stretching over HMAC-SHA-256 for a C caller: writes to the front of `out` and answers true; false, with nothing written,
 /// if a number is out of range or the input is refused.
 #[unsafe(no_mangle)]
@@ -23,8 +26,15 @@ pub extern "C" fn cipher_stretch_hmac_sha256(
     ensures answer { result ≡ applies round passphrase.now identifier exponent half.now out.old }
     ensures writes { out.new ≡ (if result then stretched (hmac sha256) 32 round passphrase.now identifier extendable exponent half.now ++ drop (length half.now) out.old else out.old) }
 {
-    cipher::cipher_stretch_hmac_sha256(
-        round, passphrase, identifier, extendable, exponent, half, out,
+    stretch_for_c(
+        &HmacSha256,
+        round,
+        passphrase,
+        identifier,
+        extendable,
+        exponent,
+        half,
+        out,
     )
 }
 
@@ -43,7 +53,14 @@ pub extern "C" fn cipher_stretch_drill(
     ensures answer { result ≡ applies round passphrase.now identifier exponent half.now out.old }
     ensures writes { out.new ≡ (if result then stretched drill_digest 4 round passphrase.now identifier extendable exponent half.now ++ drop (length half.now) out.old else out.old) }
 {
-    cipher::cipher_stretch_drill(
-        round, passphrase, identifier, extendable, exponent, half, out,
+    stretch_for_c(
+        &DrillDigest,
+        round,
+        passphrase,
+        identifier,
+        extendable,
+        exponent,
+        half,
+        out,
     )
 }

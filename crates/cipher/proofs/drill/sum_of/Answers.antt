@@ -1,13 +1,13 @@
--- One byte more, and the end.
-use Rattle.std.proofs.Common.{◌%◌, sum, ap, ◌∙◌, arith}
-use Rattle.std.proofs.lemmas.List.{take_all}
-use Rattle.std.proofs.lemmas.List.Sums.{sum_by_more}
+-- The sum may be reduced after each byte.
+use Rattle.std.proofs.Common.{rules, ◌≡◌, ◌+◌, ◌%◌, sum, fold, ℕ, List, [], ◌∷◌, arith}
+use Rattle.std.proofs.lemmas.List.Sums.{sum_by-cons}
 use Rattle.cipher.proofs.drill.sum_of.Goals as goal
 
-pub loop-byte-preserved : goal.loop-byte-preserved
-loop-byte-preserved c =
-    let more = sum_by_more (λ x. x) c.args.passphrase.now c.loop-byte.byte-index 0 (omega arith) in
-    omega (arith, more, c.loop-byte.invariant)
+reduced : (total : ℕ) (bytes : List ℕ) → fold (λ t byte. (t + byte) % 256) total bytes % 256 ≡ (total + sum bytes) % 256
+reduced total [] = omega arith
+reduced total (byte ∷ more) = omega (arith, reduced ((total + byte) % 256) more, sum_by-cons (λ x. x) byte more)
 
 pub returns : goal.returns
-returns c = c.loop-byte.invariant ∙ ap (λ xs. sum xs % 256) (take_all c.loop-byte.byte-index c.args.passphrase.now (omega arith))
+returns c =
+    let made : c.fold.result ≡ fold (λ t byte. (t + byte) % 256) 0 c.args.bytes.now = search rules in
+    omega (arith, made, reduced 0 c.args.bytes.now, c.fold.type_inv)
