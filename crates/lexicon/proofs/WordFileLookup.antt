@@ -1,6 +1,7 @@
 -- How a word is found among words in byte order.
-use Rattle.std.proofs.Common.{◌≡◌, ℕ, ◌+◌, ◌<◌, ◌≤◌, Bool, true, false, ◌&&◌, ltb, List, [], ◌++◌, length, get_or, take, drop, Some, None, Option, sym, refl, ap, ◌∙◌, inl, inr, arith, MatchOption}
-use Rattle.std.proofs.lemmas.List.{take_at, take-append-drop, length-map, get_or-map}
+use Rattle.std.proofs.Common.{◌≡◌, ℕ, ◌+◌, ◌<◌, ◌≤◌, Bool, true, false, ◌&&◌, ltb, List, [], ◌∷◌, length, get_or, take, drop, Some, None, Option, sym, refl, ap, ◌∙◌, inl, inr, not-suc-le-zero, arith, MatchOption}
+use Rattle.std.specs.List.Sorted.{IsPartitionedBy, IsPartitionPoint}
+use Rattle.std.proofs.lemmas.List.{length-map, get_or-map}
 use Rattle.std.proofs.lemmas.Bool.{and_parts, and_from, lt-ltb, ltb-true, cases_Bool, cases_eq, cases_lt, both_ways}
 use Rattle.numbers.specs.declared.WordIndex.{WordIndex}
 use Rattle.lexicon.specs.declared.word.Word.{Word}
@@ -10,22 +11,6 @@ use Rattle.lexicon.specs.WordOrder.{in_order, spellings}
 use Rattle.lexicon.specs.ByteOrderLemmas.{transitive, begun_not_before, begun_between}
 use Rattle.lexicon.specs.Lookup.{begins_take, take_begins, absent, several, alone}
 use Rattle.lexicon.specs.WordFileWords.{earlier_before}
-
-pub begins_decided : (word bytes : List ℕ) (r : Bool) → (r ≡ true → word ≡ bytes ++ drop (length bytes) word) × ((rest : List ℕ) → word ≡ bytes ++ rest → r ≡ true) → r ≡ begins_with word bytes
-begins_decided word bytes r d =
-    elim (cases_Bool (begins_with word bytes)) [
-      | inl b ↦
-          d.1 (drop (length bytes) word)
-          (sym (take-append-drop (length bytes) word) ∙ ap (λ l. l ++ drop (length bytes) word) (begins_take word bytes b))
-          ∙ sym b
-      | inr n ↦
-          elim (cases_Bool r) [
-            | inl t ↦
-                absurd (both_ways (begins_with word bytes) n
-                (take_begins word bytes (ap (take (length bytes)) (d.0 t) ∙ take_at bytes (drop (length bytes) word) (length bytes) refl)))
-            | inr f ↦ f ∙ sym n
-          ]
-    ]
 
 -- a word that the code reads
 pub spelling-at : (words : List Word) (i : ℕ) (x : Word) → length words ≡ 1024 → i < 1024 → spelling (get_or words i x) ≡ get_or (spellings words) i []
@@ -59,6 +44,26 @@ module _ (words : List Word) (count : length words ≡ 1024) (sorted : in_order 
         | inl t ↦ absurd (both_ways (Before m) f (earlier k m h l t))
         | inr f' ↦ f'
       ]
+
+  -- what the library's search asks, and what it answers
+  pub parted : IsPartitionedBy (λ w. comes_before (spelling w) bytes) words
+  parted i j d h l t =
+      let at_j = ap (λ w. comes_before w bytes) (spelling-at words j d count (omega arith)) in
+      ap (λ w. comes_before w bytes) (spelling-at words i d count (omega arith)) ∙ earlier j i h (omega arith) (sym at_j ∙ t)
+
+  a_word : Word
+  a_word = first_of words (omega arith)
+    where
+      first_of : (ws : List Word) → 0 < length ws → Word
+      first_of [] h = absurd (not-suc-le-zero h)
+      first_of (w ∷ ws) h = w
+
+  pub counted : (n : ℕ) → IsPartitionPoint (λ w. comes_before (spelling w) bytes ≡ true) (λ w. comes_before (spelling w) bytes ≡ false) words n → n ≤ 1024
+      → ((k : ℕ) → k < n → Before k ≡ true) × ((k : ℕ) → n ≤ k → k < 1024 → Before k ≡ false)
+  counted n point h = (
+    λ k l. sym (ap (λ w. comes_before w bytes) (spelling-at words k a_word count (omega arith))) ∙ point.0 k a_word (omega arith) l,
+    λ k l m. sym (ap (λ w. comes_before w bytes) (spelling-at words k a_word count m)) ∙ point.1 k a_word l (omega arith),
+  )
 
   -- the words that begin with the bytes stand in a row from the first that does not come before them
   module _ (first : ℕ) (before : (k : ℕ) → k < first → Before k ≡ true) (after : (k : ℕ) → first ≤ k → k < 1024 → Before k ≡ false) where

@@ -7,7 +7,6 @@ ghost use Rattle.lexicon.specs.Lexicon.{Lawful, index_of, spelling, found};
 use crate::word::Word;
 use numbers::WordIndex;
 
-mod byte_order;
 pub mod number_lexicon;
 pub mod word;
 pub mod word_file;

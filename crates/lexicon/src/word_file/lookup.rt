@@ -1,4 +1,4 @@
-//! Looking words up. They stand in byte order, so each step halves those that are left.
+//! Looking words up, which stand in byte order.
 ghost use Rattle.std.specs.Prelude.{◌≡◌, ℕ, ◌<◌, ◌≤◌, true, false, ◌&&◌, [], nat_lt, slice_index_or};
 ghost use Rattle.std.proofs.Common.{◌∙◌};
 ghost use Rattle.lexicon.specs.ByteOrder.{comes_before};
@@ -9,7 +9,6 @@ ghost use Rattle.lexicon.specs.WordFileWords;
 
 use super::WordFile;
 use crate::Lexicon;
-use crate::byte_order::{begins_with, comes_before};
 use crate::word::Word;
 use numbers::WordIndex;
 
@@ -20,29 +19,14 @@ impl WordFile {
         ensures before { (k : ℕ) → k < result → comes_before (slice_index_or (spellings self.now.words) k []) bytes.now ≡ true }
         ensures after { (k : ℕ) → result ≤ k → k < 1024 → comes_before (slice_index_or (spellings self.now.words) k []) bytes.now ≡ false }
     {
-        let mut low = 0;
-        let mut high = 1024;
-        while low < high {
-            let middle = (low + high) / 2;
-            let word = self.words[middle];
-            if comes_before(word.bytes(), bytes) {
-                low = middle + 1;
-            } else {
-                high = middle;
-            }
-        }
-        low
+        self.words.partition_point(|word| word.bytes() < bytes)
     }
 
     /// Whether there is a word of that index that begins with the bytes.
     fn begins_at(&self, index: usize, bytes: &[u8]) -> bool
         ensures { result ≡ (nat_lt index 1024 && begins_with (slice_index_or (spellings self.now.words) index []) bytes.now) }
     {
-        if index >= 1024 {
-            return false;
-        }
-        let word = self.words[index];
-        begins_with(word.bytes(), bytes)
+        self.words.get(index).is_some_and(|word| word.bytes().starts_with(bytes))
     }
 }
 
@@ -52,7 +36,7 @@ impl Lexicon for WordFile {
     ghost lawful = { λ s. WordFileWords.lawful (spellings s.words) (length-map s.words spelling ∙ s.count) s.sorted };
 
     fn word(&self, index: WordIndex) -> Word {
-        self.words[index.value as usize]
+        self.words[usize::from(index.value)]
     }
 
     /// The words that begin with the bytes stand in a row, from the first that does not come before them.

@@ -7,7 +7,9 @@ use Rattle.lexicon.specs.WordFile.{words_from, file_words}
 use Rattle.lexicon.proofs.WordFileReading.{with_front}
 use Rattle.lexicon.proofs.word_file.WordFile.new.Given as goal
 
-abbrev pub invariant-loop-i : goal.invariant-loop-i
-invariant-loop-i l =
-    (length l.words ≡ 1024) × (l.offset ≤ length l.file)
-    × (with_front (spellings (take l.i l.words)) (words_from (1024 - l.i) (option_map spelling l.previous) l.offset (drop l.offset l.file)) ≡ file_words l.file)
+abbrev pub invariant-loop-word : goal.invariant-loop-word
+invariant-loop-word l = record {
+  size : length l.word-items ≡ 1024;
+  within : l.offset ≤ length l.file;
+  so_far : with_front (spellings (take l.word-index l.word-items)) (words_from (1024 - l.word-index) (option_map spelling l.previous) l.offset (drop l.offset l.file)) ≡ file_words l.file;
+}

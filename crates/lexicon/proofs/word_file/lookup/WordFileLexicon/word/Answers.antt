@@ -4,4 +4,4 @@ use Rattle.lexicon.proofs.word_file.lookup.WordFileLexicon.word.Goals as goal
 
 pub returns : goal.returns
 returns c =
-    spelling-at c.args.self.now.words c.args.index.value c.index-self-index.result c.args.self.now.count c.args.index.bound
+    rw c.from.ensures (spelling-at c.args.self.now.words c.args.index.value c.index-self-from.result c.args.self.now.count c.args.index.bound)
