@@ -1,28 +1,20 @@
 -- How a word is found among words in byte order.
-use Rattle.std.proofs.Common.{◌≡◌, ℕ, ◌+◌, ◌<◌, ◌≤◌, Bool, true, false, ◌&&◌, ltb, List, [], ◌∷◌, length, get_or, take, drop, Some, None, Option, sym, refl, ap, ◌∙◌, inl, inr, not-suc-le-zero, arith, MatchOption}
-use Rattle.std.specs.List.Sorted.{IsPartitionedBy, IsPartitionPoint}
-use Rattle.std.proofs.lemmas.List.{length-map, get_or-map}
+use Rattle.std.proofs.Common.{◌≡◌, ℕ, ◌+◌, ◌<◌, ◌≤◌, Bool, true, false, ◌&&◌, ltb, List, [], ◌∷◌, length, get_or, take, drop, Some, None, Option, sym, refl, ap, ◌∙◌, inl, inr, arith, MatchOption}
+use Rattle.std.specs.List.Sorted.{IsPartitionedBy}
+use Rattle.std.proofs.lemmas.List.{get_or_default}
 use Rattle.std.proofs.lemmas.Bool.{and_parts, and_from, lt-ltb, ltb-true, cases_Bool, cases_eq, cases_lt, both_ways}
 use Rattle.numbers.specs.declared.WordIndex.{WordIndex}
-use Rattle.lexicon.specs.declared.word.Word.{Word}
 use Rattle.lexicon.specs.ByteOrder.{comes_before}
-use Rattle.lexicon.specs.Lexicon.{begins_with, index_of, spelling, found}
-use Rattle.lexicon.specs.WordOrder.{in_order, spellings}
+use Rattle.lexicon.specs.Lexicon.{begins_with, index_of, found}
+use Rattle.lexicon.specs.declared.word_file.WordFile.{WordFile}
 use Rattle.lexicon.specs.ByteOrderLemmas.{transitive, begun_not_before, begun_between}
 use Rattle.lexicon.specs.Lookup.{begins_take, take_begins, absent, several, alone}
 use Rattle.lexicon.specs.WordFileWords.{earlier_before}
 
--- a word that the code reads
-pub spelling-at : (words : List Word) (i : ℕ) (x : Word) → length words ≡ 1024 → i < 1024 → spelling (get_or words i x) ≡ get_or (spellings words) i []
-spelling-at words i x size h = sym (get_or-map spelling words i x [] (omega arith))
-
 -- ---- among the words of a file
-module _ (words : List Word) (count : length words ≡ 1024) (sorted : in_order None (spellings words) ≡ true) (bytes : List ℕ) where
+module _ (file : WordFile) (bytes : List ℕ) where
   abbrev ws : List (List ℕ)
-  ws = spellings words
-
-  size : length ws ≡ 1024
-  size = length-map words spelling ∙ count
+  ws = file.words
 
   abbrev Before : ℕ → Bool
   Before k = comes_before (get_or ws k []) bytes
@@ -31,39 +23,19 @@ module _ (words : List Word) (count : length words ≡ 1024) (sorted : in_order 
   Begins k = ltb k 1024 && begins_with (get_or ws k []) bytes
 
   -- one word settles those on its side
-  pub earlier : (m k : ℕ) → k ≤ m → m < 1024 → Before m ≡ true → Before k ≡ true
+  earlier : (m k : ℕ) → k ≤ m → m < 1024 → Before m ≡ true → Before k ≡ true
   earlier m k h l t =
       elim (cases_eq k m) [
         | inl e ↦ ap Before e ∙ t
-        | inr n ↦ transitive (get_or ws k []) (get_or ws m []) bytes (earlier_before ws size sorted k m (omega arith) l) t
+        | inr n ↦ transitive (get_or ws k []) (get_or ws m []) bytes (earlier_before ws file.count file.sorted k m (omega arith) l) t
       ]
 
-  pub later : (m k : ℕ) → m ≤ k → k < 1024 → Before m ≡ false → Before k ≡ false
-  later m k h l f =
-      elim (cases_Bool (Before k)) [
-        | inl t ↦ absurd (both_ways (Before m) f (earlier k m h l t))
-        | inr f' ↦ f'
-      ]
-
-  -- what the library's search asks, and what it answers
-  pub parted : IsPartitionedBy (λ w. comes_before (spelling w) bytes) words
+  -- what the library's search asks
+  pub parted : IsPartitionedBy (λ w. comes_before w bytes) ws
   parted i j d h l t =
-      let at_j = ap (λ w. comes_before w bytes) (spelling-at words j d count (omega arith)) in
-      ap (λ w. comes_before w bytes) (spelling-at words i d count (omega arith)) ∙ earlier j i h (omega arith) (sym at_j ∙ t)
-
-  a_word : Word
-  a_word = first_of words (omega arith)
-    where
-      first_of : (ws : List Word) → 0 < length ws → Word
-      first_of [] h = absurd (not-suc-le-zero h)
-      first_of (w ∷ ws) h = w
-
-  pub counted : (n : ℕ) → IsPartitionPoint (λ w. comes_before (spelling w) bytes ≡ true) (λ w. comes_before (spelling w) bytes ≡ false) words n → n ≤ 1024
-      → ((k : ℕ) → k < n → Before k ≡ true) × ((k : ℕ) → n ≤ k → k < 1024 → Before k ≡ false)
-  counted n point h = (
-    λ k l. sym (ap (λ w. comes_before w bytes) (spelling-at words k a_word count (omega arith))) ∙ point.0 k a_word (omega arith) l,
-    λ k l m. sym (ap (λ w. comes_before w bytes) (spelling-at words k a_word count m)) ∙ point.1 k a_word l (omega arith),
-  )
+      let size = file.count in
+      let same = λ (k : ℕ) (m : k < length ws). ap (λ w. comes_before w bytes) (get_or_default ws k d [] m) in
+      same i (omega arith) ∙ earlier j i h (omega arith) (sym (same j l) ∙ t)
 
   -- the words that begin with the bytes stand in a row from the first that does not come before them
   module _ (first : ℕ) (before : (k : ℕ) → k < first → Before k ≡ true) (after : (k : ℕ) → first ≤ k → k < 1024 → Before k ≡ false) where
@@ -79,7 +51,7 @@ module _ (words : List Word) (count : length words ≡ 1024) (sorted : in_order 
         and_from (ltb j 1024) (begins_with (get_or ws j []) bytes) (lt-ltb j 1024 (omega arith))
         (elim (cases_eq j k) [
           | inl e ↦ ap (λ i. begins_with (get_or ws i []) bytes) e ∙ b
-          | inr n ↦ begun_between (get_or ws j []) (get_or ws k []) bytes (after j h (omega arith)) (earlier_before ws size sorted j k (omega arith) l) b
+          | inr n ↦ begun_between (get_or ws j []) (get_or ws k []) bytes (after j h (omega arith)) (earlier_before ws file.count file.sorted j k (omega arith) l) b
         ])
 
     begins_parts : (k : ℕ) → Begins k ≡ true → (k < 1024) × (begins_with (get_or ws k []) bytes ≡ true)
@@ -87,7 +59,7 @@ module _ (words : List Word) (count : length words ≡ 1024) (sorted : in_order 
 
     pub none_found : false ≡ Begins first → None ≡ index_of ws bytes
     none_found f =
-        let all = size in
+        let all = file.count in
         sym (absent bytes ws (λ j l b. both_ways (Begins first) (sym f) (row first j (omega arith) (not_earlier j (omega arith) b) (omega arith) b)))
 
     pub two-found : true ≡ Begins first → true ≡ Begins (first + 1) → None ≡ index_of ws bytes
@@ -95,14 +67,14 @@ module _ (words : List Word) (count : length words ≡ 1024) (sorted : in_order 
         let p = begins_parts first (sym t) in
         let q = begins_parts (first + 1) (sym u) in
         let within = q.0 in
-        let all = size in
+        let all = file.count in
         sym (several bytes ws first (first + 1) (omega arith) (omega arith) p.1 q.1)
 
     one_found : true ≡ Begins first → false ≡ Begins (first + 1) → index_of ws bytes ≡ Some first
     one_found t f =
         let p = begins_parts first (sym t) in
         let within = p.0 in
-        let all = size in
+        let all = file.count in
         alone bytes ws first (omega arith) p.1
         (λ k l b.
         let least = not_earlier k (omega arith) b in
@@ -111,6 +83,6 @@ module _ (words : List Word) (count : length words ≡ 1024) (sorted : in_order 
           | inr n ↦ absurd (both_ways (Begins (first + 1)) (sym f) (row (first + 1) k (omega arith) (omega arith) (omega arith) b))
         ])
 
-    pub found-index : (o : Option WordIndex) → MatchOption o (1024 ≤ first) (λ i. i.value ≡ first) → true ≡ Begins first → false ≡ Begins (first + 1) → found o ≡ index_of ws bytes
-    found-index None large t f = absurd (let within = (begins_parts first (sym t)).0 in omega arith)
+    pub found-index : (o : Option WordIndex) → MatchOption o (0 ≤ first → 1023 < first) (λ i. i.value ≡ first) → true ≡ Begins first → false ≡ Begins (first + 1) → found o ≡ index_of ws bytes
+    found-index None large t f = absurd (let within = (begins_parts first (sym t)).0 in let over : 1023 < first = large (omega arith) in omega arith)
     found-index (Some i) is t f = ap Some is ∙ sym (one_found t f)

@@ -134,7 +134,8 @@ module _ (bs : List ℕ) where
       ]
 
   -- the index that a number gives, if it gives one
-  pub looked_up : (n : ℕ) (o : Option WordIndex) → n < 10000 → bs ≡ digits n → MatchOption o (1024 ≤ n) (λ i. i.value ≡ n) → found_in o ≡ index_of (numbered 1024) bs
+  pub looked_up : (n : ℕ) (o : Option WordIndex) → n < 10000 → bs ≡ digits n → MatchOption o (0 ≤ n → 1023 < n) (λ i. i.value ≡ n) → found_in o ≡ index_of (numbered 1024) bs
   looked_up n None h e large =
+      let over : 1023 < n = large (omega arith) in
       sym (unknown (λ m k e'. let same : m ≡ n = same_number m n (omega arith) h (sym e' ∙ e) in omega arith))
   looked_up n (Some i) h e is = ap Some is ∙ sym (found n (let b : i.value < 1024 = i.bound in omega arith) e)

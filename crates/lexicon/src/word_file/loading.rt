@@ -1,7 +1,5 @@
 //! Reading a word file, one line after the other.
 ghost use Rattle.std.specs.Prelude.{◌≡◌, ◌≤◌, length, take, if◌then◌else◌, Some, None};
-ghost use Rattle.std.specs.Option.{option_map};
-ghost use Rattle.lexicon.specs.Lexicon.{spelling};
 ghost use Rattle.lexicon.specs.WordFile.{begins_with_line, file_words, letters_of, next_word, words_of};
 ghost use Rattle.lexicon.specs.WordOrder.{follows as follows_word, letter_count};
 
@@ -19,7 +17,7 @@ fn letter_count(bytes: &[u8]) -> usize
 
 fn word_of(letters: &[u8]) -> Word
     requires { length letters.now ≤ 8 }
-    ensures { spelling result ≡ letters.now }
+    ensures { result ≡ letters.now }
 {
     let mut bytes = [0; 8];
     bytes[..letters.len()].copy_from_slice(letters);
@@ -28,7 +26,7 @@ fn word_of(letters: &[u8]) -> Word
 
 /// The word of the line that the bytes begin with: four to eight letters and a line feed.
 fn first_word(bytes: &[u8]) -> Option<Word>
-    ensures { option_map spelling result ≡ (if begins_with_line bytes.now then Some (letters_of bytes.now) else None) }
+    ensures { result ≡ (if begins_with_line bytes.now then Some (letters_of bytes.now) else None) }
 {
     let (letters, rest) = bytes.split_at(letter_count(bytes));
     match (letters.len(), rest) {
@@ -46,7 +44,7 @@ fn first_four(bytes: &[u8]) -> &[u8]
 
 /// Whether a word may stand after the one before.
 fn follows(previous: Option<Word>, word: &Word) -> bool
-    ensures { result ≡ follows_word (option_map spelling previous) (spelling word.now) }
+    ensures { result ≡ follows_word previous word.now }
 {
     previous.is_none_or(|previous| {
         previous.bytes() < word.bytes() && !word.bytes().starts_with(first_four(previous.bytes()))
@@ -55,7 +53,7 @@ fn follows(previous: Option<Word>, word: &Word) -> bool
 
 /// The word of the line that the bytes begin with, if that line may stand after the word before.
 fn next_word(previous: Option<Word>, bytes: &[u8]) -> Option<Word>
-    ensures { option_map spelling result ≡ next_word (option_map spelling previous) bytes.now }
+    ensures { result ≡ next_word previous bytes.now }
 {
     first_word(bytes).filter(|word| follows(previous, word))
 }

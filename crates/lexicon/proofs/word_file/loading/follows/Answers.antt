@@ -1,6 +1,5 @@
 use Rattle.std.proofs.Common.{rules, of_calls, ◌≡◌, ℕ, ◌+◌, ◌<◌, List, [], sym, ap, ◌∙◌, refl, arith, true, false}
 use Rattle.std.proofs.lemmas.Grind.{common_steps}
-use Rattle.lexicon.specs.Lexicon.{spelling}
 use Rattle.lexicon.proofs.ByteComparisons.{before_decided, begins_decided}
 use Rattle.lexicon.proofs.word_file.loading.follows.Goals as goal
 
