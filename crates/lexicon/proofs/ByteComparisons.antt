@@ -8,15 +8,10 @@ use Rattle.std.proofs.lemmas.Cmp.{same_from_slice_cmp_tested, nat_eq_equiv}
 use Rattle.std.proofs.lemmas.Bool.Decides.{nat_tests}
 use Rattle.lexicon.specs.ByteOrder.{comes_before}
 use Rattle.lexicon.specs.Lexicon.{begins_with}
+use Rattle.lexicon.specs.Lookup.{starts_is_begins}
 
 pub before_decided : (left right : List ℕ) (r : Bool) → r ≡ is_some_and is_lt (slice_partial_cmp (λ x y. Some (nat_cmp x y)) left right) → r ≡ comes_before left right
 before_decided = same_from_slice_cmp_tested nat_cmp is_lt comes_before refl (λ _ _. refl) (λ _ _. refl) (λ x y xs ys o h. grind (arith, nat_tests))
-
-starts_is_begins : (word bytes : List ℕ) → starts_with nat_eq word bytes ≡ begins_with word bytes
-starts_is_begins [] [] = refl
-starts_is_begins [] (b ∷ bytes) = refl
-starts_is_begins (w ∷ word) [] = refl
-starts_is_begins (w ∷ word) (b ∷ bytes) = ap₂ ◌&&◌ (nat_eq_equiv.symm b w) (starts_is_begins word bytes)
 
 pub begins_decided : (word bytes : List ℕ) (r : Bool) → r ≡ starts_with nat_eq word bytes → r ≡ begins_with word bytes
 begins_decided word bytes r e = e ∙ starts_is_begins word bytes

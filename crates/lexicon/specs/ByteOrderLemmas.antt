@@ -1,7 +1,12 @@
 -- Byte order: how it is decided byte by byte, that it is an order, and how it goes with what words begin with.
 use Rattle.std.specs.Prelude.{◌≡◌, ℕ, zero, suc, ◌+◌, ◌-◌, ◌<◌, ◌≤◌, min, Bool, true, false, ◌&&◌, ◌||◌, ◌⊎◌, List, [], ◌∷◌, length, take, drop, ◌==◌, ◌≢◌, nat_lt, slice_index, refl}
 use Rattle.std.proofs.Common.{sym, ap, ap₂, ◌∙◌, inl, inr, arith, length-drop}
-use Rattle.std.proofs.lemmas.List.{drop_more}
+use Rattle.std.specs.declared.cmp.Ordering.{Ordering}
+use Rattle.std.specs.declared.cmp.Ordering.TheVariants.{Less, Equal, Greater}
+use Rattle.std.specs.Ordering.{nat_cmp, is_lt}
+use Rattle.std.specs.Cmp.Lexicographic.{slice_cmp}
+use Rattle.std.proofs.lemmas.Cmp.{same_from_slice_cmp, nat_list_cmp_total, tied_itself}
+use Rattle.std.proofs.lemmas.Bool.Decides.{nat_tests}
 use Rattle.std.proofs.lemmas.Bool.{eqb-true, eq-eqb, ne_eqb, ltb-true, lt-ltb, le-ltb, and_parts, and_from, or_cases, or_left, cases_lt, both_ways}
 use Rattle.lexicon.specs.ByteOrder.{comes_before}
 use Rattle.lexicon.specs.Lexicon.{begins_with}
@@ -9,44 +14,6 @@ use Rattle.lexicon.specs.Lexicon.{begins_with}
 -- ---- the first bytes decide
 pub same_first : (l r : ℕ) (left right : List ℕ) → l ≡ r → comes_before (l ∷ left) (r ∷ right) ≡ comes_before left right
 same_first l r left right e = ap₂ (λ a b. a || (b && comes_before left right)) (le-ltb l r (omega arith)) (eq-eqb l r e)
-
-or_false : (a : Bool) → (a || false) ≡ a
-or_false true = refl
-or_false false = refl
-
-pub other_first : (l r : ℕ) (left right : List ℕ) → (l ≢ r) → comes_before (l ∷ left) (r ∷ right) ≡ nat_lt l r
-other_first l r left right n = ap (λ b. nat_lt l r || (b && comes_before left right)) (ne_eqb l r n) ∙ or_false (nat_lt l r)
-
-pub shorter_first : (left right : List ℕ) → (length left ≡ 0) ⊎ (length right ≡ 0) → comes_before left right ≡ nat_lt (length left) (length right)
-shorter_first [] [] e = refl
-shorter_first [] (r ∷ right) e = sym (lt-ltb 0 (length (r ∷ right)) (omega arith))
-shorter_first (l ∷ left) [] e = sym (le-ltb (length (l ∷ left)) 0 (omega arith))
-shorter_first (l ∷ left) (r ∷ right) e = absurd (elim e [ inl z ↦ omega arith | inr z ↦ omega arith ])
-
--- ---- along a loop
-module _ (left right : List ℕ) (i : ℕ) where
-  abbrev both : i < length left → i < length right
-      → comes_before (drop i left) (drop i right) ≡ comes_before (slice_index left i ∷ drop (i + 1) left) (slice_index right i ∷ drop (i + 1) right)
-  both h k = ap₂ comes_before (drop_more left i 0 h) (drop_more right i 0 k)
-
-  pub at_same : i < length left → i < length right → slice_index left i ≡ slice_index right i → comes_before (drop i left) (drop i right) ≡ comes_before (drop (i + 1) left) (drop (i + 1) right)
-  at_same h k e = both h k ∙ same_first (slice_index left i) (slice_index right i) (drop (i + 1) left) (drop (i + 1) right) e
-
-  pub at_other : i < length left → i < length right → (slice_index left i ≢ slice_index right i) → comes_before (drop i left) (drop i right) ≡ nat_lt (slice_index left i) (slice_index right i)
-  at_other h k n = both h k ∙ other_first (slice_index left i) (slice_index right i) (drop (i + 1) left) (drop (i + 1) right) n
-
-  pub at-end : i ≡ min (length left) (length right) → comes_before (drop i left) (drop i right) ≡ nat_lt (length left) (length right)
-  at-end e =
-      let l : length (drop i left) ≡ length left - i = length-drop i left in
-      let r : length (drop i right) ≡ length right - i = length-drop i right in
-      elim (cases_lt (length left) (length right)) [
-        | inl h ↦
-            shorter_first (drop i left) (drop i right) (inl (omega arith))
-            ∙ lt-ltb (length (drop i left)) (length (drop i right)) (omega arith) ∙ sym (lt-ltb (length left) (length right) h)
-        | inr h ↦
-            shorter_first (drop i left) (drop i right) (inr (omega arith))
-            ∙ le-ltb (length (drop i left)) (length (drop i right)) (omega arith) ∙ sym (le-ltb (length left) (length right) h)
-      ]
 
 -- ---- an order
 module _ (l r : ℕ) (left right : List ℕ) where
@@ -69,28 +36,28 @@ module _ (l r : ℕ) (left right : List ℕ) where
     λ e. sym (same_first l r left right e) ∙ n,
   )
 
-pub irreflexive : (word : List ℕ) → comes_before word word ≡ false
-irreflexive [] = refl
-irreflexive (w ∷ word) = same_first w w word word refl ∙ irreflexive word
-
 nothing_before : (word : List ℕ) → comes_before word [] ≢ true
 nothing_before [] e = both_ways false refl e
 nothing_before (w ∷ word) e = both_ways false refl e
 
+-- it is the library's order of lists of numbers
+is_listed : (left right : List ℕ) → is_lt (slice_cmp nat_cmp left right) ≡ comes_before left right
+is_listed left right =
+    same_from_slice_cmp nat_cmp is_lt comes_before refl (λ _ _. refl) (λ _ _. refl) (λ x y xs ys o h. grind (arith, nat_tests)) left right _ refl
+
+less : (left right : List ℕ) → comes_before left right ≡ true → slice_cmp nat_cmp left right ≡ Less
+less left right e = by (slice_cmp nat_cmp left right) (is_listed left right ∙ e)
+  where
+    by : (o : Ordering) → is_lt o ≡ true → o ≡ Less
+    by Less e = refl
+    by Equal e = absurd (both_ways false refl e)
+    by Greater e = absurd (both_ways false refl e)
+
+pub irreflexive : (word : List ℕ) → comes_before word word ≡ false
+irreflexive word = sym (is_listed word word) ∙ ap is_lt (tied_itself nat_list_cmp_total word)
+
 pub transitive : (a b c : List ℕ) → comes_before a b ≡ true → comes_before b c ≡ true → comes_before a c ≡ true
-transitive a b [] p q = absurd (nothing_before b q)
-transitive a [] (z ∷ c) p q = absurd (nothing_before a p)
-transitive [] (y ∷ b) (z ∷ c) p q = refl
-transitive (x ∷ a) (y ∷ b) (z ∷ c) p q =
-    elim (before_cases x y a b p) [
-      | inl h ↦ elim (before_cases y z b c q) [ inl k ↦ before_less x z a c (omega arith) | inr k ↦ before_less x z a c (let e = k.0 in omega arith) ]
-      | inr h ↦
-          let e = h.0 in
-          elim (before_cases y z b c q) [
-            | inl k ↦ before_less x z a c (omega arith)
-            | inr k ↦ before_same x z a c (e ∙ k.0) (transitive a b c h.1 k.1)
-          ]
-    ]
+transitive a b c p q = sym (is_listed a c) ∙ ap is_lt (nat_list_cmp_total.trans a b c (less a b p) (less b c q))
 
 -- ---- what words begin with
 begins_none : (word : List ℕ) → begins_with word [] ≡ true

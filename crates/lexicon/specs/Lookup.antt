@@ -1,35 +1,31 @@
 -- How an index is looked up among words: what shows that bytes begin one word, no word, or several.
-use Rattle.std.specs.Prelude.{◌≡◌, ℕ, zero, suc, ◌+◌, ◌<◌, ◌≤◌, true, false, List, [], ◌∷◌, length, take, Some, None, ◌==◌, ◌≢◌, slice_index_or, refl}
+use Rattle.std.specs.Prelude.{◌≡◌, ℕ, zero, suc, ◌+◌, ◌<◌, ◌≤◌, true, false, List, [], ◌∷◌, length, take, Some, None, ◌&&◌, ◌≢◌, nat_eq, slice_index_or, refl}
+use Rattle.std.specs.Bool.{Decides}
+use Rattle.std.specs.List.{starts_with}
 use Rattle.std.proofs.Common.{sym, ap, ap₂, ◌∙◌, inl, inr, not-suc-le-zero, arith}
 use Rattle.std.proofs.Math.Nat.{suc_inj}
+use Rattle.std.proofs.lemmas.Bool.Decides.{Decides-eqb}
+use Rattle.std.proofs.lemmas.Cmp.{nat_eq_equiv}
+use Rattle.std.proofs.lemmas.Slice.Eq.{slice_eq-Decides}
 use Rattle.std.proofs.lemmas.Bool.{eqb-true, eq-eqb, and_parts, and_from, cases_Bool, cond-true, cond-false, cases_lt}
 use Rattle.lexicon.specs.Lexicon.{begins_with, indices, only, index_of}
 
+-- the library's test
+pub starts_is_begins : (word bytes : List ℕ) → starts_with nat_eq word bytes ≡ begins_with word bytes
+starts_is_begins [] [] = refl
+starts_is_begins [] (b ∷ bytes) = refl
+starts_is_begins (w ∷ word) [] = refl
+starts_is_begins (w ∷ word) (b ∷ bytes) = ap₂ ◌&&◌ (nat_eq_equiv.symm b w) (starts_is_begins word bytes)
+
 -- a word begins with bytes that are its own first ones
+decided : (w bs : List ℕ) → Decides (begins_with w bs) (bs ≡ take (length bs) w)
+decided w bs = slice_eq-Decides Decides-eqb bs (take (length bs) w) (begins_with w bs) (sym (starts_is_begins w bs))
+
 pub begins_take : (w bs : List ℕ) → begins_with w bs ≡ true → take (length bs) w ≡ bs
-begins_take [] [] e = refl
-begins_take [] (b ∷ bs) e = absurd (let z : ◌≡◌ {A = ℕ} 0 1 = cc in omega arith)
-begins_take (w ∷ ws) [] e = refl
-begins_take (w ∷ ws) (b ∷ bs) e =
-    let p = and_parts (w == b) (begins_with ws bs) e in
-    ap₂ ◌∷◌ (eqb-true w b p.0) (begins_take ws bs p.1)
+begins_take w bs e = sym ((decided w bs).0 e)
 
 pub take_begins : (w bs : List ℕ) → take (length bs) w ≡ bs → begins_with w bs ≡ true
-take_begins [] [] e = refl
-take_begins [] (b ∷ bs) e = absurd (let z : ◌≡◌ {A = ℕ} 0 1 = cc in omega arith)
-take_begins (w ∷ ws) [] e = refl
-take_begins (w ∷ ws) (b ∷ bs) e =
-    let h : w ≡ b = cc in
-    let t : take (length bs) ws ≡ bs = cc in
-    and_from (w == b) (begins_with ws bs) (eq-eqb w b h) (take_begins ws bs t)
-
-pub begins_length : (w bs : List ℕ) → begins_with w bs ≡ true → length bs ≤ length w
-begins_length [] [] e = omega arith
-begins_length [] (b ∷ bs) e = absurd (let z : ◌≡◌ {A = ℕ} 0 1 = cc in omega arith)
-begins_length (w ∷ ws) [] e = omega arith
-begins_length (w ∷ ws) (b ∷ bs) e =
-    let h : length bs ≤ length ws = begins_length ws bs (and_parts (w == b) (begins_with ws bs) e).1 in
-    omega arith
+take_begins w bs e = (decided w bs).1 (sym e)
 
 module _ (bs : List ℕ) where
   abbrev Begins : List (List ℕ) → ℕ → Type 0

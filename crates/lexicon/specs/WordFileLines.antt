@@ -34,12 +34,6 @@ module _ (bytes : List ℕ) where
   tests : begins_with_line bytes ≡ ((nat_le 4 count && (nat_le count 8 && count == count)) && feed)
   tests = ap₂ (λ n m. (nat_le 4 n && (nat_le n 8 && m == n)) && feed) size (letters_again bytes)
 
-  pub too_few : count < 4 → begins_with_line bytes ≡ false
-  too_few h = tests ∙ and_left _ feed (and_left (nat_le 4 count) _ (lt-leb 4 count h))
-
-  pub too_many : 8 < count → begins_with_line bytes ≡ false
-  too_many h = tests ∙ and_left _ feed (and_right (nat_le 4 count) _ (and_left (nat_le count 8) _ (lt-leb count 8 h)))
-
   pub no_feed : (slice_index bytes count ≢ 10) → begins_with_line bytes ≡ false
   no_feed n = tests ∙ and_right _ feed (ne_eqb (slice_index bytes count) 10 n)
 
@@ -54,32 +48,6 @@ module _ (bytes : List ℕ) where
 
 -- ---- after the word before
 module _ (previous : Option (List ℕ)) (bytes : List ℕ) where
-  pub no_line : None ≡ cond (begins_with_line bytes) (Some (letters_of bytes)) None → None ≡ next_word previous bytes
-  no_line e =
-      elim (cases_Bool (begins_with_line bytes)) [
-        | inl t ↦ absurd (let found = e ∙ cond-true (begins_with_line bytes) (Some (letters_of bytes)) None t in let z : ◌≡◌ {A = ℕ} 0 1 = cc in omega arith)
-        | inr f ↦ sym (cond-false _ (Some (letters_of bytes)) None (and_left (begins_with_line bytes) (follows previous (letters_of bytes)) f))
-      ]
-
-  -- the word of a right line is taken if it follows
-  line : (word : List ℕ) → Some word ≡ cond (begins_with_line bytes) (Some (letters_of bytes)) None → (begins_with_line bytes ≡ true) × (word ≡ letters_of bytes)
-  line word e =
-      elim (cases_Bool (begins_with_line bytes)) [
-        | inl t ↦ (t, let found = e ∙ cond-true (begins_with_line bytes) (Some (letters_of bytes)) None t in cc)
-        | inr f ↦ absurd (let none = e ∙ cond-false (begins_with_line bytes) (Some (letters_of bytes)) None f in let z : ◌≡◌ {A = ℕ} 0 1 = cc in omega arith)
-      ]
-
-  pub line-follows : (word : List ℕ) → Some word ≡ cond (begins_with_line bytes) (Some (letters_of bytes)) None → true ≡ follows previous word → Some word ≡ next_word previous bytes
-  line-follows word e t =
-      let l = line word e in
-      ap Some l.1
-      ∙ sym (cond-true _ (Some (letters_of bytes)) None (and_from (begins_with_line bytes) (follows previous (letters_of bytes)) l.0 (ap (follows previous) (sym l.1) ∙ sym t)))
-
-  pub line_refused : (word : List ℕ) → Some word ≡ cond (begins_with_line bytes) (Some (letters_of bytes)) None → false ≡ follows previous word → None ≡ next_word previous bytes
-  line_refused word e f =
-      let l = line word e in
-      sym (cond-false _ (Some (letters_of bytes)) None (and_right (begins_with_line bytes) (follows previous (letters_of bytes)) (ap (follows previous) (sym l.1) ∙ sym f)))
-
   pub taken : (word : List ℕ) → next_word previous bytes ≡ Some word → (word ≡ letters_of bytes) × (begins_with_line bytes ≡ true) × (follows previous (letters_of bytes) ≡ true)
   taken word e =
       elim (cases_Bool (begins_with_line bytes && follows previous (letters_of bytes))) [

@@ -48,17 +48,12 @@ impl Lexicon for NumberLexicon {
 
     fn word(&self, index: WordIndex) -> Word {
         let n = index.value;
-        let bytes = [
+        Word::of(&[
             digit(n / 1000),
             digit(n / 100 % 10),
             digit(n / 10 % 10),
             digit(n % 10),
-            0,
-            0,
-            0,
-            0,
-        ];
-        Word::new(bytes, 4)
+        ])
     }
 
     fn find(&self, bytes: &[u8]) -> Option<WordIndex> {

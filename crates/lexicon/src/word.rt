@@ -28,6 +28,16 @@ impl Word {
         }
     }
 
+    /// The word of these bytes.
+    pub(crate) fn of(letters: &[u8]) -> Word
+        requires { length letters.now ≤ 8 }
+        ensures { result ≡ letters.now }
+    {
+        let mut bytes = [0; 8];
+        bytes[..letters.len()].copy_from_slice(letters);
+        Word::new(bytes, letters.len())
+    }
+
     pub fn bytes(&self) -> &[u8]
         ensures bytes { result.now ≡ self.now }
         ensures fits { length result.now ≤ 8 }

@@ -12,16 +12,10 @@ fn letter_count(bytes: &[u8]) -> usize
     ensures count { result ≡ letter_count bytes.now }
     ensures bound { result ≤ length bytes.now }
 {
-    bytes.iter().take_while(|byte| byte.is_ascii_lowercase()).count()
-}
-
-fn word_of(letters: &[u8]) -> Word
-    requires { length letters.now ≤ 8 }
-    ensures { result ≡ letters.now }
-{
-    let mut bytes = [0; 8];
-    bytes[..letters.len()].copy_from_slice(letters);
-    Word::new(bytes, letters.len())
+    bytes
+        .iter()
+        .take_while(|byte| byte.is_ascii_lowercase())
+        .count()
 }
 
 /// The word of the line that the bytes begin with: four to eight letters and a line feed.
@@ -30,7 +24,7 @@ fn first_word(bytes: &[u8]) -> Option<Word>
 {
     let (letters, rest) = bytes.split_at(letter_count(bytes));
     match (letters.len(), rest) {
-        (4..=8, [b'\n', ..]) => Some(word_of(letters)),
+        (4..=8, [b'\n', ..]) => Some(Word::of(letters)),
         _ => None,
     }
 }

@@ -23,7 +23,9 @@ impl WordFile {
     fn begins_at(&self, index: usize, bytes: &[u8]) -> bool
         ensures { result ≡ (nat_lt index 1024 && begins_with (slice_index_or self.now.words index []) bytes.now) }
     {
-        self.words.get(index).is_some_and(|word| word.bytes().starts_with(bytes))
+        self.words
+            .get(index)
+            .is_some_and(|word| word.bytes().starts_with(bytes))
     }
 }
 

@@ -22,7 +22,7 @@ returns-in_err-word c =
     let p = err_from_is_err_and c.from_residual.result c.from_residual.ensures.1 in
     rw (p.1, p.2, at_line)
     (sym (faulty (take at.word-index at.word-items) at.previous at.offset file (1024 - at.word-index) (1024 - (at.word-index + 1)) (omega arith) line)
-      ∙ at.invariant.so_far)
+    ∙ at.invariant.so_far)
 
 next : (words : List (List ℕ)) (i : ℕ) (previous : Option (List ℕ)) (offset : ℕ) (file word : List ℕ) → length words ≡ 1024 → i < 1024 → next_word previous (drop offset file) ≡ Some word
     → with_front (take i words) (words_from (1024 - i) previous offset (drop offset file)) ≡ file_words file
