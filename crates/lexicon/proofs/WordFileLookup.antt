@@ -1,14 +1,14 @@
 -- How a word is found among words in byte order.
-use Rattle.std.proofs.Common.{◌≡◌, ℕ, ◌+◌, ◌<◌, ◌≤◌, Bool, true, false, ◌&&◌, ltb, List, [], ◌∷◌, length, get_or, take, drop, Some, None, Option, sym, refl, ap, ◌∙◌, inl, inr, arith, MatchOption}
+use Rattle.std.proofs.Common.{◌≡◌, ℕ, ◌+◌, ◌<◌, ◌≤◌, Bool, true, false, ◌&&◌, ltb, List, [], length, get_or, Some, None, Option, sym, ap, ◌∙◌, inl, inr, arith, MatchOption}
 use Rattle.std.specs.List.Sorted.{IsPartitionedBy}
 use Rattle.std.proofs.lemmas.List.{get_or_default}
-use Rattle.std.proofs.lemmas.Bool.{and_parts, and_from, lt-ltb, ltb-true, cases_Bool, cases_eq, cases_lt, both_ways}
+use Rattle.std.proofs.lemmas.Bool.{and_parts, and_from, lt-ltb, ltb-true, cases_eq, cases_lt, both_ways}
 use Rattle.numbers.specs.declared.WordIndex.{WordIndex}
 use Rattle.lexicon.specs.ByteOrder.{comes_before}
 use Rattle.lexicon.specs.Lexicon.{begins_with, index_of, found}
 use Rattle.lexicon.specs.declared.word_file.WordFile.{WordFile}
 use Rattle.lexicon.specs.ByteOrderLemmas.{transitive, begun_not_before, begun_between}
-use Rattle.lexicon.specs.Lookup.{begins_take, take_begins, absent, several, alone}
+use Rattle.lexicon.specs.Lookup.{absent, several, alone}
 use Rattle.lexicon.specs.WordFileWords.{earlier_before}
 
 -- ---- among the words of a file

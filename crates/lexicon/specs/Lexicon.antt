@@ -1,6 +1,7 @@
 -- A lexicon's words, and the index that bytes stand for.
 use Rattle.std.specs.Prelude.{◌≡◌, ℕ, ◌+◌, ◌<◌, ◌≤◌, Bool, true, false, cond, ◌&&◌, T, List, [], ◌∷◌, length, take, Some, None, Option, ◌==◌, slice_index_or}
 use Rattle.std.specs.List.{AllByRecursion}
+use Rattle.std.specs.Option.{option_map}
 use Rattle.numbers.specs.declared.WordIndex.{WordIndex}
 use Rattle.lexicon.specs.Letters.{is_letter}
 
@@ -34,5 +35,4 @@ index_of words bytes = only (indices words 0 bytes)
 
 -- the number of an index
 abbrev pub found : Option WordIndex → Option ℕ
-found None = None
-found (Some i) = Some i.value
+found = option_map (λ i. i.value)

@@ -1,10 +1,10 @@
 -- The words of a word file: each has four to eight letters, and their first four letters rise in byte order.
 use Rattle.std.specs.Prelude.{◌≡◌, ℕ, zero, suc, ◌+◌, ◌<◌, ◌≤◌, true, not, ◌&&◌, T, List, [], ◌∷◌, length, take, drop, Some, None, Ok, Err, Option, Result, ◌==◌, ◌≢◌, nat_le, slice_index, slice_index_or, refl}
-use Rattle.std.proofs.Common.{sym, ap, subst, ◌∙◌, inl, inr, not-suc-le-zero, one-add, arith}
+use Rattle.std.proofs.Common.{sym, ap, subst, ◌∙◌, inl, inr, not-suc-le-zero, arith}
 use Rattle.std.specs.List.{AllByRecursion}
-use Rattle.std.proofs.ByRecursion.{All-weaker}
-use Rattle.std.proofs.lemmas.List.{take_all}
-use Rattle.std.proofs.lemmas.Bool.{and_parts, and_from, eqb-true, or_left, not-true, leb-true, cases_Bool, cases_order, cond-true, cond-false, both_ways}
+use Rattle.std.proofs.ByRecursion.{All-weaker, all_from_every}
+use Rattle.std.proofs.lemmas.List.Sums.{prefix_len_passes}
+use Rattle.std.proofs.lemmas.Bool.{and_parts, and_from, eqb-true, or_left, not-true, leb-true, cases_order, both_ways}
 use Rattle.refusal.specs.declared.Refusal.{Refusal}
 use Rattle.refusal.specs.declared.Refusal.TheVariants.{FaultyWordFile}
 use Rattle.lexicon.specs.ByteOrder.{comes_before}
@@ -16,16 +16,6 @@ use Rattle.lexicon.specs.WordFileLines.{taken}
 use Rattle.lexicon.specs.ByteOrderLemmas.{irreflexive, transitive, first_before, before_first}
 
 -- ---- one line
-leading_letters : (bytes : List ℕ) → AllByRecursion (λ b. is_lowercase b ≡ true) (letters_of bytes)
-leading_letters [] = tt
-leading_letters (b ∷ bytes) =
-    elim (cases_Bool (is_lowercase b)) [
-      | inl t ↦
-          subst (λ n. AllByRecursion (λ b. is_lowercase b ≡ true) (take n (b ∷ bytes))) (sym (cond-true (is_lowercase b) (1 + letter_count bytes) 0 t ∙ one-add (letter_count bytes)))
-          (t, leading_letters bytes)
-      | inr f ↦ subst (λ n. AllByRecursion (λ b. is_lowercase b ≡ true) (take n (b ∷ bytes))) (sym (cond-false (is_lowercase b) (1 + letter_count bytes) 0 f)) tt
-    ]
-
 record IsWord (word : List ℕ) : Type 0 where
   least : 4 ≤ length word
   most : length word ≤ 8
@@ -38,10 +28,7 @@ word-parts word t =
     record {
       least = leb-true 4 (length word) p.0;
       most = leb-true (length word) 8 q.0;
-      letters =
-          subst (AllByRecursion (λ b. is_lowercase b ≡ true))
-          (ap (λ n. take n word) (eqb-true (letter_count word) (length word) q.1) ∙ take_all (length word) word (omega arith))
-          (leading_letters word);
+      letters = all_from_every (λ b. is_lowercase b ≡ true) word (λ k d _ h. prefix_len_passes is_lowercase word k d (let all = eqb-true (letter_count word) (length word) q.1 in omega arith));
     }
 
 -- ---- what is read

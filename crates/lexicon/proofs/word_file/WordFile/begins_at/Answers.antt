@@ -1,3 +1,4 @@
+-- There is a word at the index, and the library compares the bytes with it.
 use Rattle.std.proofs.Common.{arith}
 use Rattle.std.proofs.lemmas.Grind.{common_steps}
 use Rattle.lexicon.proofs.ByteComparisons.{begins_decided}

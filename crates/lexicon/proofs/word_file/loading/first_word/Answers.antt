@@ -1,3 +1,4 @@
+-- A line of four to eight letters that a line feed ends is right.
 use Rattle.std.proofs.Common.{arith}
 use Rattle.std.proofs.lemmas.Grind.{common_steps}
 use Rattle.lexicon.specs.WordFileLines.{is_line}
