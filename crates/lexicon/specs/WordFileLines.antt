@@ -1,20 +1,18 @@
 -- One line of a word file: when it is right, and which word it has.
-use Rattle.std.specs.Prelude.{◌≡◌, ℕ, ◌<◌, ◌≤◌, Bool, true, ◌&&◌, List, length, Some, Option, ◌==◌, nat_le, slice_index, slice_index_or, refl}
-use Rattle.std.proofs.Common.{sym, ap, ap₂, ◌∙◌, inl, inr, arith}
+use Rattle.std.specs.Prelude.{◌≡◌, ℕ, ◌<◌, ◌≤◌, true, ◌&&◌, List, length, Some, Option, ◌==◌, slice_index, slice_index_or}
+use Rattle.std.proofs.Common.{sym, ap, ◌∙◌, inl, inr, arith}
 use Rattle.std.proofs.lemmas.List.{get_or-take, get_or_past}
 use Rattle.std.proofs.lemmas.List.Folds.{length-prefix_len}
 use Rattle.std.proofs.lemmas.List.Sums.{prefix_len_is, prefix_len_passes}
 use Rattle.std.proofs.lemmas.Option.{cond_some}
-use Rattle.std.proofs.lemmas.Bool.{eqb-true, and_parts, and_from, le-leb, eq-eqb, cases_lt}
+use Rattle.std.proofs.lemmas.Bool.Decides.{nat_tests}
+use Rattle.std.proofs.lemmas.Bool.{eqb-true, and_parts, cases_lt}
 use Rattle.lexicon.specs.WordOrder.{is_lowercase, letter_count, is_word, follows}
 use Rattle.lexicon.specs.WordFile.{letters_of, begins_with_line, next_word}
 
 module _ (bytes : List ℕ) where
   abbrev count : ℕ
   count = letter_count bytes
-
-  abbrev feed : Bool
-  feed = slice_index bytes count == 10
 
   size : length (letters_of bytes) ≡ count
   size = length-prefix_len is_lowercase bytes
@@ -25,15 +23,8 @@ module _ (bytes : List ℕ) where
       prefix_len_is is_lowercase (letters_of bytes) count 0 (omega arith)
       (λ k h. ap is_lowercase (get_or-take count bytes k 0 h) ∙ prefix_len_passes is_lowercase bytes k 0 h) (λ h. absurd (omega arith))
 
-  -- the tests of the code
-  tests : begins_with_line bytes ≡ ((nat_le 4 count && (nat_le count 8 && count == count)) && feed)
-  tests = ap₂ (λ n m. (nat_le 4 n && (nat_le n 8 && m == n)) && feed) size letters_again
-
   pub is_line : 4 ≤ count → count ≤ 8 → slice_index bytes count ≡ 10 → begins_with_line bytes ≡ true
-  is_line h k e =
-      tests
-      ∙ and_from _ feed (and_from (nat_le 4 count) _ (le-leb 4 count h) (and_from (nat_le count 8) _ (le-leb count 8 k) (eq-eqb count count refl)))
-      (eq-eqb (slice_index bytes count) 10 e)
+  is_line h k e = grind (arith, nat_tests, size, letters_again)
 
 -- ---- after the word before
 module _ (previous : Option (List ℕ)) (bytes : List ℕ) where
