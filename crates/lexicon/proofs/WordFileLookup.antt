@@ -2,6 +2,7 @@
 use Rattle.std.proofs.Common.{◌≡◌, ℕ, ◌+◌, ◌<◌, ◌≤◌, Bool, true, false, ◌&&◌, ltb, List, [], length, get_or, Some, None, Option, sym, ap, ◌∙◌, inl, inr, arith, MatchOption}
 use Rattle.std.specs.List.Sorted.{IsPartitionedBy}
 use Rattle.std.proofs.lemmas.List.{get_or_default}
+use Rattle.std.proofs.lemmas.Bool.Decides.{nat_tests}
 use Rattle.std.proofs.lemmas.Bool.{and_parts, and_from, lt-ltb, ltb-true, cases_eq, cases_lt, both_ways}
 use Rattle.numbers.specs.declared.WordIndex.{WordIndex}
 use Rattle.lexicon.specs.ByteOrder.{comes_before}
@@ -22,66 +23,42 @@ module _ (file : WordFile) (bytes : List ℕ) where
   abbrev Begins : ℕ → Bool
   Begins k = ltb k 1024 && begins_with (get_or ws k []) bytes
 
-  -- one word settles those on its side
+  -- one word settles those before it
   earlier : (m k : ℕ) → k ≤ m → m < 1024 → Before m ≡ true → Before k ≡ true
-  earlier m k h l t =
-      elim (cases_eq k m) [
-        | inl e ↦ ap Before e ∙ t
-        | inr n ↦ transitive (get_or ws k []) (get_or ws m []) bytes (earlier_before ws file.count file.sorted k m (omega arith) l) t
-      ]
+  earlier m k h l t = grind (arith, transitive (get_or ws k []) (get_or ws m []) bytes, earlier_before ws file.count file.sorted k m)
 
   -- what the library's search asks
   pub parted : IsPartitionedBy (λ w. comes_before w bytes) ws
-  parted i j d h l t =
-      let size = file.count in
-      let same = λ (k : ℕ) (m : k < length ws). ap (λ w. comes_before w bytes) (get_or_default ws k d [] m) in
-      same i (omega arith) ∙ earlier j i h (omega arith) (sym (same j l) ∙ t)
+  parted i j d h l t = grind (arith, file.count, get_or_default ws i d [], get_or_default ws j d [], earlier j i)
 
   -- the words that begin with the bytes stand in a row from the first that does not come before them
   module _ (first : ℕ) (before : (k : ℕ) → k < first → Before k ≡ true) (after : (k : ℕ) → first ≤ k → k < 1024 → Before k ≡ false) where
     not_earlier : (k : ℕ) → k < 1024 → begins_with (get_or ws k []) bytes ≡ true → first ≤ k
-    not_earlier k l b =
-        elim (cases_lt k first) [
-          | inl h ↦ absurd (both_ways (Before k) (begun_not_before (get_or ws k []) bytes b) (before k h))
-          | inr h ↦ h
-        ]
+    not_earlier k l b = grind (arith, before k, begun_not_before (get_or ws k []) bytes b)
 
-    row : (j k : ℕ) → first ≤ j → j ≤ k → k < 1024 → begins_with (get_or ws k []) bytes ≡ true → Begins j ≡ true
-    row j k h o l b =
-        and_from (ltb j 1024) (begins_with (get_or ws j []) bytes) (lt-ltb j 1024 (omega arith))
-        (elim (cases_eq j k) [
-          | inl e ↦ ap (λ i. begins_with (get_or ws i []) bytes) e ∙ b
-          | inr n ↦ begun_between (get_or ws j []) (get_or ws k []) bytes (after j h (omega arith)) (earlier_before ws file.count file.sorted j k (omega arith) l) b
-        ])
+    row : (j k : ℕ) → first ≤ j → j ≤ k → k < 1024 → begins_with (get_or ws k []) bytes ≡ true → begins_with (get_or ws j []) bytes ≡ true
+    row j k h o l b = grind (arith, after j, earlier_before ws file.count file.sorted j k, begun_between (get_or ws j []) (get_or ws k []) bytes)
 
     begins_parts : (k : ℕ) → Begins k ≡ true → (k < 1024) × (begins_with (get_or ws k []) bytes ≡ true)
-    begins_parts k t = let p = and_parts (ltb k 1024) (begins_with (get_or ws k []) bytes) t in (ltb-true k 1024 p.0, p.1)
+    begins_parts k t = grind (arith, nat_tests)
 
     pub none_found : false ≡ Begins first → None ≡ index_of ws bytes
     none_found f =
         let all = file.count in
-        sym (absent bytes ws (λ j l b. both_ways (Begins first) (sym f) (row first j (omega arith) (not_earlier j (omega arith) b) (omega arith) b)))
+        sym (absent bytes ws (λ j l b. grind (arith, nat_tests, not_earlier j, row first j)))
 
     pub two-found : true ≡ Begins first → true ≡ Begins (first + 1) → None ≡ index_of ws bytes
     two-found t u =
         let p = begins_parts first (sym t) in
         let q = begins_parts (first + 1) (sym u) in
-        let within = q.0 in
         let all = file.count in
-        sym (several bytes ws first (first + 1) (omega arith) (omega arith) p.1 q.1)
+        sym (several bytes ws first (first + 1) (omega arith) (omega (arith, q.0)) p.1 q.1)
 
     one_found : true ≡ Begins first → false ≡ Begins (first + 1) → index_of ws bytes ≡ Some first
     one_found t f =
         let p = begins_parts first (sym t) in
-        let within = p.0 in
         let all = file.count in
-        alone bytes ws first (omega arith) p.1
-        (λ k l b.
-        let least = not_earlier k (omega arith) b in
-        elim (cases_eq k first) [
-          | inl e ↦ e
-          | inr n ↦ absurd (both_ways (Begins (first + 1)) (sym f) (row (first + 1) k (omega arith) (omega arith) (omega arith) b))
-        ])
+        alone bytes ws first (omega (arith, p.0)) p.1 (λ k l b. grind (arith, nat_tests, not_earlier k, row (first + 1) k))
 
     pub found-index : (o : Option WordIndex) → MatchOption o (0 ≤ first → 1023 < first) (λ i. i.value ≡ first) → true ≡ Begins first → false ≡ Begins (first + 1) → found o ≡ index_of ws bytes
     found-index None large t f = absurd (let within = (begins_parts first (sym t)).0 in let over : 1023 < first = large (omega arith) in omega arith)

@@ -5,6 +5,7 @@ use Rattle.std.proofs.Common.{subst, ◌∙◌, inl, inr}
 use native.Mathlib.Omega.{arith}
 use Rattle.std.specs.List.{AllByRecursion}
 use Rattle.std.proofs.lemmas.List.FromFn.{length-map-range_with_len, get_or-map-range_with_len}
+use Rattle.std.proofs.lemmas.Bool.Decides.{nat_tests}
 use Rattle.std.proofs.lemmas.Bool.{le-leb, or_right, and_from, cases_lt}
 use Rattle.std.proofs.lemmas.List.{take_all, take-take}
 use Rattle.numbers.specs.declared.WordIndex.{WordIndex}
@@ -22,19 +23,11 @@ unfolding numbered
 numbered-at n i h = get_or-map-range_with_len digits 0 n i i [] h (omega arith)
 
 pub same_number : (m n : ℕ) → m < 10000 → n < 10000 → digits m ≡ digits n → m ≡ n
-same_number m n hm hn e =
-    let a : 48 + m / 1000 ≡ 48 + n / 1000 = cc in
-    let b : 48 + m / 100 % 10 ≡ 48 + n / 100 % 10 = cc in
-    let c : 48 + m / 10 % 10 ≡ 48 + n / 10 % 10 = cc in
-    let d : 48 + m % 10 ≡ 48 + n % 10 = cc in
-    omega arith
+same_number m n hm hn e = grind arith
 
 -- ---- the lexicon
 letter : (d : ℕ) → d < 10 → T (is_letter (48 + d))
-letter d h =
-    let e : is_letter (48 + d) ≡ true =
-    or_right _ _ (and_from _ _ (le-leb 48 (48 + d) (omega arith)) (le-leb (48 + d) 57 (omega arith))) in
-    subst T (sym e) tt
+letter d h = grind (arith, nat_tests)
 
 pub lawful : Lawful (numbered 1024)
 lawful =
@@ -56,7 +49,7 @@ module _ (bs : List ℕ) where
   Begins j = begins_with (slice_index_or (numbered 1024) j []) bs ≡ true
 
   begins_digits : (j : ℕ) → j < 1024 → Begins j → take (length bs) (digits j) ≡ bs
-  begins_digits j h b = L.begins_take (digits j) bs (subst (λ w. begins_with w bs ≡ true) (numbered-at 1024 j h) b)
+  begins_digits j h b = grind (arith, L.begins_take (digits j) bs, numbered-at 1024 j h)
 
   pub found : (n : ℕ) → n < 1024 → bs ≡ digits n → index_of (numbered 1024) bs ≡ Some n
   found n h e =
@@ -120,7 +113,5 @@ module _ (bs : List ℕ) where
 
   -- the index that a number gives, if it gives one
   pub looked_up : (n : ℕ) (o : Option WordIndex) → n < 10000 → bs ≡ digits n → MatchOption o (0 ≤ n → 1023 < n) (λ i. i.value ≡ n) → found_in o ≡ index_of (numbered 1024) bs
-  looked_up n None h e large =
-      let over : 1023 < n = large (omega arith) in
-      sym (unknown (λ m k e'. let same : m ≡ n = same_number m n (omega arith) h (sym e' ∙ e) in omega arith))
-  looked_up n (Some i) h e is = ap Some is ∙ sym (found n (let b : i.value < 1024 = i.bound in omega arith) e)
+  looked_up n None h e large = sym (unknown (λ m k e'. grind (arith, large, same_number m n)))
+  looked_up n (Some i) h e is = grind (arith, i.bound, found n)
