@@ -1,9 +1,8 @@
 -- How a word is found among words in byte order.
-use Rattle.std.proofs.Common.{◌≡◌, ℕ, ◌+◌, ◌<◌, ◌≤◌, Bool, true, false, ◌&&◌, ltb, List, [], length, get_or, Some, None, Option, sym, ap, ◌∙◌, inl, inr, arith, MatchOption}
+use Rattle.std.proofs.Common.{◌≡◌, ℕ, ◌+◌, ◌<◌, ◌≤◌, Bool, true, false, ◌&&◌, ltb, List, [], get_or, Some, None, Option, sym, ap, ◌∙◌, arith, MatchOption}
 use Rattle.std.specs.List.Sorted.{IsPartitionedBy}
 use Rattle.std.proofs.lemmas.List.{get_or_default}
 use Rattle.std.proofs.lemmas.Bool.Decides.{nat_tests}
-use Rattle.std.proofs.lemmas.Bool.{and_parts, and_from, lt-ltb, ltb-true, cases_eq, cases_lt, both_ways}
 use Rattle.numbers.specs.declared.WordIndex.{WordIndex}
 use Rattle.lexicon.specs.ByteOrder.{comes_before}
 use Rattle.lexicon.specs.Lexicon.{begins_with, index_of, found}
