@@ -1,3 +1,4 @@
 -- The lemmas of this crate.
+pub mod ByteComparisons
 pub mod WordFileLookup
 pub mod WordFileReading

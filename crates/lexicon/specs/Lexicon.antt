@@ -1,8 +1,8 @@
 -- A lexicon's words, and the index that bytes stand for.
 use Rattle.std.specs.Prelude.{◌≡◌, ℕ, ◌+◌, ◌<◌, ◌≤◌, Bool, true, false, cond, ◌&&◌, T, List, [], ◌∷◌, length, take, Some, None, Option, ◌==◌, slice_index_or}
 use Rattle.std.specs.List.{AllByRecursion}
+use Rattle.std.specs.Option.{option_map}
 use Rattle.numbers.specs.declared.WordIndex.{WordIndex}
-use Rattle.lexicon.specs.declared.word.Word.{Word}
 use Rattle.lexicon.specs.Letters.{is_letter}
 
 -- 1,024 words of four to eight bytes from a-z and 0-9, no two alike in their first four bytes
@@ -33,10 +33,6 @@ only (i ∷ j ∷ more) = None
 abbrev pub index_of : List (List ℕ) → List ℕ → Option ℕ
 index_of words bytes = only (indices words 0 bytes)
 
--- the bytes of a word, and the number of an index
-abbrev pub spelling : Word → List ℕ
-spelling w = take w.length w.bytes
-
+-- the number of an index
 abbrev pub found : Option WordIndex → Option ℕ
-found None = None
-found (Some i) = Some i.value
+found = option_map (λ i. i.value)

@@ -1,11 +1,12 @@
 -- The words of the number lexicon: each is four digits, and no two are alike.
-use Rattle.std.specs.Prelude.{◌≡◌, ℕ, ◌+◌, ◌-◌, ◌*◌, ◌/◌, ◌%◌, ◌<◌, ◌≤◌, true, T, List, [], ◌∷◌, length, take, Some, None, Option, MatchOption, ◌≢◌, slice_index, slice_index_or}
+use Rattle.std.specs.Prelude.{◌≡◌, ℕ, ◌+◌, ◌-◌, ◌*◌, ◌/◌, ◌%◌, ◌<◌, ◌≤◌, true, T, List, [], ◌∷◌, length, take, Some, None, Option, MatchOption, ◌≢◌, slice_index_or}
 use Rattle.std.proofs.Math.Path.{sym, ap, ap₂}
 use Rattle.std.proofs.Common.{subst, ◌∙◌, inl, inr}
 use native.Mathlib.Omega.{arith}
 use Rattle.std.specs.List.{AllByRecursion}
 use Rattle.std.proofs.lemmas.List.FromFn.{length-map-range_with_len, get_or-map-range_with_len}
-use Rattle.std.proofs.lemmas.Bool.{le-leb, or_right, and_from, cases_lt}
+use Rattle.std.proofs.lemmas.Bool.Decides.{nat_tests}
+use Rattle.std.proofs.lemmas.Bool.{cases_lt}
 use Rattle.std.proofs.lemmas.List.{take_all, take-take}
 use Rattle.numbers.specs.declared.WordIndex.{WordIndex}
 use Rattle.lexicon.specs.Letters.{is_letter}
@@ -22,34 +23,11 @@ unfolding numbered
 numbered-at n i h = get_or-map-range_with_len digits 0 n i i [] h (omega arith)
 
 pub same_number : (m n : ℕ) → m < 10000 → n < 10000 → digits m ≡ digits n → m ≡ n
-same_number m n hm hn e =
-    let a : 48 + m / 1000 ≡ 48 + n / 1000 = cc in
-    let b : 48 + m / 100 % 10 ≡ 48 + n / 100 % 10 = cc in
-    let c : 48 + m / 10 % 10 ≡ 48 + n / 10 % 10 = cc in
-    let d : 48 + m % 10 ≡ 48 + n % 10 = cc in
-    omega arith
-
-pub four-digits : (l : List ℕ) (a b c d : ℕ) → length l ≡ 4 → a < 10 → b < 10 → c < 10 → d < 10
-    → slice_index l 0 ≡ 48 + a → slice_index l 1 ≡ 48 + b → slice_index l 2 ≡ 48 + c → slice_index l 3 ≡ 48 + d → l ≡ digits (a * 1000 + b * 100 + c * 10 + d)
-four-digits [] a b c d n ha hb hc hd ea eb ec ed = absurd (omega arith)
-four-digits (w ∷ []) a b c d n ha hb hc hd ea eb ec ed = absurd (omega arith)
-four-digits (w ∷ x ∷ []) a b c d n ha hb hc hd ea eb ec ed = absurd (omega arith)
-four-digits (w ∷ x ∷ y ∷ []) a b c d n ha hb hc hd ea eb ec ed = absurd (omega arith)
-four-digits (w ∷ x ∷ y ∷ z ∷ v ∷ l) a b c d n ha hb hc hd ea eb ec ed = absurd (omega arith)
-four-digits (w ∷ x ∷ y ∷ z ∷ []) a b c d n ha hb hc hd ea eb ec ed =
-    let N = a * 1000 + b * 100 + c * 10 + d in
-    let e0 : w ≡ 48 + N / 1000 = omega arith in
-    let e1 : x ≡ 48 + N / 100 % 10 = omega arith in
-    let e2 : y ≡ 48 + N / 10 % 10 = omega arith in
-    let e3 : z ≡ 48 + N % 10 = omega arith in
-    ap₂ ◌∷◌ e0 (ap₂ ◌∷◌ e1 (ap₂ ◌∷◌ e2 (ap (λ t. t ∷ []) e3)))
+same_number m n hm hn e = grind arith
 
 -- ---- the lexicon
 letter : (d : ℕ) → d < 10 → T (is_letter (48 + d))
-letter d h =
-    let e : is_letter (48 + d) ≡ true =
-    or_right _ _ (and_from _ _ (le-leb 48 (48 + d) (omega arith)) (le-leb (48 + d) 57 (omega arith))) in
-    subst T (sym e) tt
+letter d h = grind (arith, nat_tests)
 
 pub lawful : Lawful (numbered 1024)
 lawful =
@@ -71,7 +49,7 @@ module _ (bs : List ℕ) where
   Begins j = begins_with (slice_index_or (numbered 1024) j []) bs ≡ true
 
   begins_digits : (j : ℕ) → j < 1024 → Begins j → take (length bs) (digits j) ≡ bs
-  begins_digits j h b = L.begins_take (digits j) bs (subst (λ w. begins_with w bs ≡ true) (numbered-at 1024 j h) b)
+  begins_digits j h b = grind (arith, L.begins_take (digits j) bs, numbered-at 1024 j h)
 
   pub found : (n : ℕ) → n < 1024 → bs ≡ digits n → index_of (numbered 1024) bs ≡ Some n
   found n h e =
@@ -134,7 +112,6 @@ module _ (bs : List ℕ) where
       ]
 
   -- the index that a number gives, if it gives one
-  pub looked_up : (n : ℕ) (o : Option WordIndex) → n < 10000 → bs ≡ digits n → MatchOption o (1024 ≤ n) (λ i. i.value ≡ n) → found_in o ≡ index_of (numbered 1024) bs
-  looked_up n None h e large =
-      sym (unknown (λ m k e'. let same : m ≡ n = same_number m n (omega arith) h (sym e' ∙ e) in omega arith))
-  looked_up n (Some i) h e is = ap Some is ∙ sym (found n (let b : i.value < 1024 = i.bound in omega arith) e)
+  pub looked_up : (n : ℕ) (o : Option WordIndex) → n < 10000 → bs ≡ digits n → MatchOption o (0 ≤ n → 1023 < n) (λ i. i.value ≡ n) → found_in o ≡ index_of (numbered 1024) bs
+  looked_up n None h e large = sym (unknown (λ m k e'. grind (arith, large, same_number m n)))
+  looked_up n (Some i) h e is = grind (arith, i.bound, found n)

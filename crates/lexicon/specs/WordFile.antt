@@ -3,7 +3,7 @@ use Rattle.std.specs.Prelude.{ℕ, zero, suc, ◌+◌, Bool, cond, ◌&&◌, Lis
 use Rattle.refusal.specs.declared.Refusal.{Refusal}
 use Rattle.refusal.specs.declared.Refusal.TheVariants.{FaultyWordFile}
 use Rattle.lexicon.specs.declared.word_file.WordFile.{WordFile}
-use Rattle.lexicon.specs.WordOrder.{letter_count, is_word, follows, spellings}
+use Rattle.lexicon.specs.WordOrder.{letter_count, is_word, follows}
 
 -- the letters that the bytes begin with
 abbrev pub letters_of : List ℕ → List ℕ
@@ -36,5 +36,5 @@ file_words file = words_from 1024 None 0 file
 
 -- the answer of the code, as words
 abbrev pub words_of : Result WordFile Refusal → Result (List (List ℕ)) Refusal
-words_of (Ok file) = Ok (spellings file.words)
+words_of (Ok file) = Ok file.words
 words_of (Err refusal) = Err refusal

@@ -1,100 +1,46 @@
 -- One line of a word file: when it is right, and which word it has.
-use Rattle.std.specs.Prelude.{◌≡◌, ℕ, suc, ◌+◌, ◌<◌, ◌≤◌, Bool, true, false, cond, ◌&&◌, List, [], ◌∷◌, length, take, Some, None, Option, ◌==◌, ◌≢◌, nat_le, slice_index, slice_index_or, refl}
-use Rattle.std.proofs.Common.{sym, ap, ap₂, ◌∙◌, inl, inr, one-add, arith}
-use Rattle.std.proofs.lemmas.List.{length-take-le, get_or_past}
-use Rattle.std.proofs.lemmas.List.Sums.{prefix_len-le-length}
-use Rattle.std.proofs.lemmas.Bool.{and_parts, and_from, and_left, and_right, le-leb, lt-leb, eq-eqb, ne_eqb, cases_Bool, cases_lt, cond-true, cond-false, both_ways}
-use Rattle.lexicon.specs.WordOrder.{is_lowercase, letter_count, follows}
+use Rattle.std.specs.Prelude.{◌≡◌, ℕ, ◌<◌, ◌≤◌, true, ◌&&◌, List, length, Some, Option, ◌==◌, slice_index, slice_index_or}
+use Rattle.std.proofs.Common.{sym, ap, ◌∙◌, inl, inr, arith}
+use Rattle.std.proofs.lemmas.List.{get_or-take, get_or_past}
+use Rattle.std.proofs.lemmas.List.Folds.{length-prefix_len}
+use Rattle.std.proofs.lemmas.List.Sums.{prefix_len_is, prefix_len_passes}
+use Rattle.std.proofs.lemmas.Option.{cond_some}
+use Rattle.std.proofs.lemmas.Bool.Decides.{nat_tests}
+use Rattle.std.proofs.lemmas.Bool.{eqb-true, and_parts, cases_lt}
+use Rattle.lexicon.specs.WordOrder.{is_lowercase, letter_count, is_word, follows}
 use Rattle.lexicon.specs.WordFile.{letters_of, begins_with_line, next_word}
-
-letters_again : (bytes : List ℕ) → letter_count (letters_of bytes) ≡ letter_count bytes
-letters_again [] = refl
-letters_again (b ∷ bytes) =
-    elim (cases_Bool (is_lowercase b)) [
-      | inl t ↦
-          let count : letter_count (b ∷ bytes) ≡ suc (letter_count bytes) = cond-true (is_lowercase b) (1 + letter_count bytes) 0 t ∙ one-add (letter_count bytes) in
-          ap (λ n. letter_count (take n (b ∷ bytes))) count
-          ∙ cond-true (is_lowercase b) (1 + letter_count (letters_of bytes)) 0 t ∙ ap (λ n. 1 + n) (letters_again bytes) ∙ one-add (letter_count bytes) ∙ sym count
-      | inr f ↦
-          let count : letter_count (b ∷ bytes) ≡ 0 = cond-false (is_lowercase b) (1 + letter_count bytes) 0 f in
-          ap (λ n. letter_count (take n (b ∷ bytes))) count ∙ sym count
-    ]
 
 module _ (bytes : List ℕ) where
   abbrev count : ℕ
   count = letter_count bytes
 
-  abbrev feed : Bool
-  feed = slice_index bytes count == 10
-
   size : length (letters_of bytes) ≡ count
-  size = length-take-le count bytes (prefix_len-le-length is_lowercase bytes)
+  size = length-prefix_len is_lowercase bytes
 
-  -- the tests of the code
-  tests : begins_with_line bytes ≡ ((nat_le 4 count && (nat_le count 8 && count == count)) && feed)
-  tests = ap₂ (λ n m. (nat_le 4 n && (nat_le n 8 && m == n)) && feed) size (letters_again bytes)
-
-  pub too_few : count < 4 → begins_with_line bytes ≡ false
-  too_few h = tests ∙ and_left _ feed (and_left (nat_le 4 count) _ (lt-leb 4 count h))
-
-  pub too_many : 8 < count → begins_with_line bytes ≡ false
-  too_many h = tests ∙ and_left _ feed (and_right (nat_le 4 count) _ (and_left (nat_le count 8) _ (lt-leb count 8 h)))
-
-  pub no_feed : (slice_index bytes count ≢ 10) → begins_with_line bytes ≡ false
-  no_feed n = tests ∙ and_right _ feed (ne_eqb (slice_index bytes count) 10 n)
-
-  pub no_byte : length bytes ≤ count → begins_with_line bytes ≡ false
-  no_byte h = no_feed (λ e. let past : slice_index_or bytes count 0 ≡ 0 = get_or_past bytes count 0 h in omega arith)
+  letters_again : letter_count (letters_of bytes) ≡ count
+  letters_again =
+      let all = size in
+      prefix_len_is is_lowercase (letters_of bytes) count 0 (omega arith)
+      (λ k h. ap is_lowercase (get_or-take count bytes k 0 h) ∙ prefix_len_passes is_lowercase bytes k 0 h) (λ h. absurd (omega arith))
 
   pub is_line : 4 ≤ count → count ≤ 8 → slice_index bytes count ≡ 10 → begins_with_line bytes ≡ true
-  is_line h k e =
-      tests
-      ∙ and_from _ feed (and_from (nat_le 4 count) _ (le-leb 4 count h) (and_from (nat_le count 8) _ (le-leb count 8 k) (eq-eqb count count refl)))
-      (eq-eqb (slice_index bytes count) 10 e)
+  is_line h k e = grind (arith, nat_tests, size, letters_again)
 
 -- ---- after the word before
 module _ (previous : Option (List ℕ)) (bytes : List ℕ) where
-  pub no_line : None ≡ cond (begins_with_line bytes) (Some (letters_of bytes)) None → None ≡ next_word previous bytes
-  no_line e =
-      elim (cases_Bool (begins_with_line bytes)) [
-        | inl t ↦ absurd (let found = e ∙ cond-true (begins_with_line bytes) (Some (letters_of bytes)) None t in let z : ◌≡◌ {A = ℕ} 0 1 = cc in omega arith)
-        | inr f ↦ sym (cond-false _ (Some (letters_of bytes)) None (and_left (begins_with_line bytes) (follows previous (letters_of bytes)) f))
-      ]
-
-  -- the word of a right line is taken if it follows
-  line : (word : List ℕ) → Some word ≡ cond (begins_with_line bytes) (Some (letters_of bytes)) None → (begins_with_line bytes ≡ true) × (word ≡ letters_of bytes)
-  line word e =
-      elim (cases_Bool (begins_with_line bytes)) [
-        | inl t ↦ (t, let found = e ∙ cond-true (begins_with_line bytes) (Some (letters_of bytes)) None t in cc)
-        | inr f ↦ absurd (let none = e ∙ cond-false (begins_with_line bytes) (Some (letters_of bytes)) None f in let z : ◌≡◌ {A = ℕ} 0 1 = cc in omega arith)
-      ]
-
-  pub line-follows : (word : List ℕ) → Some word ≡ cond (begins_with_line bytes) (Some (letters_of bytes)) None → true ≡ follows previous word → Some word ≡ next_word previous bytes
-  line-follows word e t =
-      let l = line word e in
-      ap Some l.1
-      ∙ sym (cond-true _ (Some (letters_of bytes)) None (and_from (begins_with_line bytes) (follows previous (letters_of bytes)) l.0 (ap (follows previous) (sym l.1) ∙ sym t)))
-
-  pub line_refused : (word : List ℕ) → Some word ≡ cond (begins_with_line bytes) (Some (letters_of bytes)) None → false ≡ follows previous word → None ≡ next_word previous bytes
-  line_refused word e f =
-      let l = line word e in
-      sym (cond-false _ (Some (letters_of bytes)) None (and_right (begins_with_line bytes) (follows previous (letters_of bytes)) (ap (follows previous) (sym l.1) ∙ sym f)))
-
   pub taken : (word : List ℕ) → next_word previous bytes ≡ Some word → (word ≡ letters_of bytes) × (begins_with_line bytes ≡ true) × (follows previous (letters_of bytes) ≡ true)
   taken word e =
-      elim (cases_Bool (begins_with_line bytes && follows previous (letters_of bytes))) [
-        | inl t ↦
-            let both = and_parts (begins_with_line bytes) (follows previous (letters_of bytes)) t in
-            (let found = sym e ∙ cond-true _ (Some (letters_of bytes)) None t in cc, both.0, both.1)
-        | inr f ↦ absurd (let none = sym e ∙ cond-false _ (Some (letters_of bytes)) None f in let z : ◌≡◌ {A = ℕ} 0 1 = cc in omega arith)
-      ]
+      let line = cond_some (begins_with_line bytes && follows previous (letters_of bytes)) (letters_of bytes) word e in
+      let both = and_parts (begins_with_line bytes) (follows previous (letters_of bytes)) line.0 in
+      (sym line.1, both.0, both.1)
 
   -- its line feed is within the bytes
   pub fits : (word : List ℕ) → next_word previous bytes ≡ Some word → length word < length bytes
   fits word e =
       let t = taken word e in
       let count : length word ≡ letter_count bytes = ap length t.0 ∙ size bytes in
+      let feed : slice_index_or bytes (letter_count bytes) 0 ≡ 10 = eqb-true _ 10 (and_parts (is_word (letters_of bytes)) (slice_index bytes (letter_count bytes) == 10) t.1).1 in
       elim (cases_lt (letter_count bytes) (length bytes)) [
         | inl h ↦ omega arith
-        | inr h ↦ absurd (both_ways (begins_with_line bytes) (no_byte bytes h) t.1)
+        | inr h ↦ absurd (let past : slice_index_or bytes (letter_count bytes) 0 ≡ 0 = get_or_past bytes (letter_count bytes) 0 h in omega arith)
       ]

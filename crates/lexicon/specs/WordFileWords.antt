@@ -1,31 +1,22 @@
 -- The words of a word file: each has four to eight letters, and their first four letters rise in byte order.
-use Rattle.std.specs.Prelude.{◌≡◌, ℕ, zero, suc, ◌+◌, ◌<◌, ◌≤◌, true, not, ◌&&◌, T, List, [], ◌∷◌, length, take, drop, Some, None, Ok, Err, Option, Result, ◌==◌, ◌≢◌, nat_le, slice_index, slice_index_or, refl}
-use Rattle.std.proofs.Common.{sym, ap, subst, ◌∙◌, inl, inr, not-suc-le-zero, one-add, arith}
+use Rattle.std.specs.Prelude.{◌≡◌, ℕ, zero, suc, ◌+◌, ◌<◌, ◌≤◌, true, ◌&&◌, T, List, [], ◌∷◌, length, take, drop, Some, None, Ok, Err, Option, Result, ◌==◌, ◌≢◌, slice_index, slice_index_or, refl}
+use Rattle.std.proofs.Common.{sym, ap, subst, ◌∙◌, inl, inr, not-suc-le-zero, arith}
 use Rattle.std.specs.List.{AllByRecursion}
-use Rattle.std.proofs.ByRecursion.{All-weaker}
-use Rattle.std.proofs.lemmas.List.{take_all}
-use Rattle.std.proofs.lemmas.Bool.{and_parts, and_from, eqb-true, or_left, not-true, leb-true, cases_Bool, cases_order, cond-true, cond-false, both_ways}
+use Rattle.std.proofs.ByRecursion.{All-weaker, all_from_every}
+use Rattle.std.proofs.lemmas.List.Sums.{prefix_len_passes}
+use Rattle.std.proofs.lemmas.Bool.Decides.{nat_tests}
+use Rattle.std.proofs.lemmas.Bool.{and_parts, cases_order, both_ways}
 use Rattle.refusal.specs.declared.Refusal.{Refusal}
 use Rattle.refusal.specs.declared.Refusal.TheVariants.{FaultyWordFile}
 use Rattle.lexicon.specs.ByteOrder.{comes_before}
 use Rattle.lexicon.specs.Letters.{is_letter}
-use Rattle.lexicon.specs.Lexicon.{Lawful, begins_with}
+use Rattle.lexicon.specs.Lexicon.{Lawful}
 use Rattle.lexicon.specs.WordOrder.{is_lowercase, letter_count, is_word, follows, in_order}
 use Rattle.lexicon.specs.WordFile.{letters_of, next_word, with_first, words_from, file_words}
 use Rattle.lexicon.specs.WordFileLines.{taken}
 use Rattle.lexicon.specs.ByteOrderLemmas.{irreflexive, transitive, first_before, before_first}
 
 -- ---- one line
-leading_letters : (bytes : List ℕ) → AllByRecursion (λ b. is_lowercase b ≡ true) (letters_of bytes)
-leading_letters [] = tt
-leading_letters (b ∷ bytes) =
-    elim (cases_Bool (is_lowercase b)) [
-      | inl t ↦
-          subst (λ n. AllByRecursion (λ b. is_lowercase b ≡ true) (take n (b ∷ bytes))) (sym (cond-true (is_lowercase b) (1 + letter_count bytes) 0 t ∙ one-add (letter_count bytes)))
-          (t, leading_letters bytes)
-      | inr f ↦ subst (λ n. AllByRecursion (λ b. is_lowercase b ≡ true) (take n (b ∷ bytes))) (sym (cond-false (is_lowercase b) (1 + letter_count bytes) 0 f)) tt
-    ]
-
 record IsWord (word : List ℕ) : Type 0 where
   least : 4 ≤ length word
   most : length word ≤ 8
@@ -33,15 +24,11 @@ record IsWord (word : List ℕ) : Type 0 where
 
 word-parts : (word : List ℕ) → is_word word ≡ true → IsWord word
 word-parts word t =
-    let p = and_parts (nat_le 4 (length word)) (nat_le (length word) 8 && letter_count word == length word) t in
-    let q = and_parts (nat_le (length word) 8) (letter_count word == length word) p.1 in
+    let all : letter_count word ≡ length word = grind (arith, nat_tests) in
     record {
-      least = leb-true 4 (length word) p.0;
-      most = leb-true (length word) 8 q.0;
-      letters =
-          subst (AllByRecursion (λ b. is_lowercase b ≡ true))
-          (ap (λ n. take n word) (eqb-true (letter_count word) (length word) q.1) ∙ take_all (length word) word (omega arith))
-          (leading_letters word);
+      least = grind (arith, nat_tests);
+      most = grind (arith, nat_tests);
+      letters = all_from_every (λ b. is_lowercase b ≡ true) word (λ k d _ h. prefix_len_passes is_lowercase word k d (omega arith));
     }
 
 -- ---- what is read
@@ -57,7 +44,7 @@ Good n previous (Err refusal) = Unit {0}
 
 first_good : (n : ℕ) (previous : Option (List ℕ)) (word : List ℕ) (r : Result (List (List ℕ)) Refusal)
     → (is_word word ≡ true) × (follows previous word ≡ true) → Good n (Some word) r → Good (suc n) previous (with_first word r)
-first_good n previous word (Ok ws) is g = (ap suc g.0, and_from (is_word word) (follows previous word && in_order (Some word) ws) is.0 (and_from (follows previous word) (in_order (Some word) ws) is.1 g.1))
+first_good n previous word (Ok ws) is g = grind (arith, nat_tests)
 first_good n previous word (Err refusal) is g = tt
 
 good : (n : ℕ) (previous : Option (List ℕ)) (offset : ℕ) (bytes : List ℕ) → Good n previous (words_from n previous offset bytes)
@@ -77,42 +64,32 @@ pub accepted : (file : List ℕ) (ws : List (List ℕ)) → file_words file ≡ 
 accepted file ws e = subst (Good 1024 None) e (good 1024 None 0 file)
 
 -- ---- words in order
-module _ (previous : Option (List ℕ)) (w : List ℕ) (ws : List (List ℕ)) (t : in_order previous (w ∷ ws) ≡ true) where
-  first_is_word : is_word w ≡ true
-  first_is_word = (and_parts (is_word w) (follows previous w && in_order (Some w) ws) t).0
-
-  first_follows : follows previous w ≡ true
-  first_follows = (and_parts (follows previous w) (in_order (Some w) ws) (and_parts (is_word w) (follows previous w && in_order (Some w) ws) t).1).0
-
-  more-in-order : in_order (Some w) ws ≡ true
-  more-in-order = (and_parts (follows previous w) (in_order (Some w) ws) (and_parts (is_word w) (follows previous w && in_order (Some w) ws) t).1).1
+in_parts : (previous : Option (List ℕ)) (w : List ℕ) (ws : List (List ℕ)) → in_order previous (w ∷ ws) ≡ true → (is_word w ≡ true) × (in_order (Some w) ws ≡ true)
+in_parts previous w ws t =
+    let p = and_parts (is_word w) (follows previous w && in_order (Some w) ws) t in
+    (p.0, (and_parts (follows previous w) (in_order (Some w) ws) p.1).1)
 
 word_at : (previous : Option (List ℕ)) (ws : List (List ℕ)) (i : ℕ) → i < length ws → in_order previous ws ≡ true → IsWord (slice_index_or ws i [])
 word_at previous [] i h t = absurd (not-suc-le-zero h)
-word_at previous (w ∷ ws) zero h t = word-parts w (first_is_word previous w ws t)
-word_at previous (w ∷ ws) (suc i) h t = word_at (Some w) ws i (omega arith) (more-in-order previous w ws t)
-
-next_rises : (v w : List ℕ) → follows (Some v) w ≡ true → comes_before (take 4 v) (take 4 w) ≡ true
-next_rises v w t =
-    let p = and_parts (comes_before v w) (not (begins_with w (take 4 v))) t in
-    first_before 4 v w p.0 (not-true (begins_with w (take 4 v)) p.1)
+word_at previous (w ∷ ws) zero h t = word-parts w (in_parts previous w ws t).0
+word_at previous (w ∷ ws) (suc i) h t = word_at (Some w) ws i (omega arith) (in_parts previous w ws t).1
 
 -- the first four letters of a word come before those of every later one
 later_rises : (v : List ℕ) (ws : List (List ℕ)) (j : ℕ) → j < length ws → in_order (Some v) ws ≡ true → comes_before (take 4 v) (take 4 (slice_index_or ws j [])) ≡ true
-later_rises v [] j h t = absurd (not-suc-le-zero h)
-later_rises v (w ∷ ws) zero h t = next_rises v w (first_follows (Some v) w ws t)
+later_rises v [] j h t = grind arith
+later_rises v (w ∷ ws) zero h t = grind (arith, nat_tests, first_before 4 v w)
 later_rises v (w ∷ ws) (suc j) h t =
-    transitive (take 4 v) (take 4 w) (take 4 (slice_index_or ws j [])) (next_rises v w (first_follows (Some v) w ws t)) (later_rises w ws j (omega arith) (more-in-order (Some v) w ws t))
+    grind (arith, nat_tests, first_before 4 v w, later_rises w ws j, transitive (take 4 v) (take 4 w) (take 4 (slice_index_or ws j [])))
 
 rising : (previous : Option (List ℕ)) (ws : List (List ℕ)) (i j : ℕ) → i < j → j < length ws → in_order previous ws ≡ true
     → comes_before (take 4 (slice_index_or ws i [])) (take 4 (slice_index_or ws j [])) ≡ true
-rising previous [] i j h l t = absurd (not-suc-le-zero l)
-rising previous (w ∷ ws) i zero h l t = absurd (not-suc-le-zero h)
-rising previous (w ∷ ws) zero (suc j) h l t = later_rises w ws j (omega arith) (more-in-order previous w ws t)
-rising previous (w ∷ ws) (suc i) (suc j) h l t = rising (Some w) ws i j (omega arith) (omega arith) (more-in-order previous w ws t)
+rising previous [] i j h l t = grind arith
+rising previous (w ∷ ws) i zero h l t = grind arith
+rising previous (w ∷ ws) zero (suc j) h l t = grind (arith, nat_tests, later_rises w ws j)
+rising previous (w ∷ ws) (suc i) (suc j) h l t = grind (arith, nat_tests, rising (Some w) ws i j)
 
 letter : (b : ℕ) → is_lowercase b ≡ true → T (is_letter b)
-letter b t = subst T (sym (or_left (is_lowercase b) (nat_le 48 b && nat_le b 57) t)) tt
+letter b t = grind (arith, nat_tests)
 
 module _ (ws : List (List ℕ)) (size : length ws ≡ 1024) (sorted : in_order None ws ≡ true) where
   pub earlier_before : (i j : ℕ) → i < j → j < 1024 → comes_before (slice_index_or ws i []) (slice_index_or ws j []) ≡ true

@@ -1,9 +1,8 @@
 -- Words that may stand one after the other in a word file.
-use Rattle.std.specs.Prelude.{ℕ, Bool, true, not, ◌&&◌, List, [], ◌∷◌, map, length, take, Some, None, Option, ◌==◌, nat_le}
+use Rattle.std.specs.Prelude.{ℕ, Bool, true, not, ◌&&◌, List, [], ◌∷◌, length, take, Some, None, Option, ◌==◌, nat_le}
 use Rattle.std.specs.List.{prefix_len}
-use Rattle.lexicon.specs.declared.word.Word.{Word}
 use Rattle.lexicon.specs.ByteOrder.{comes_before}
-use Rattle.lexicon.specs.Lexicon.{begins_with, spelling}
+use Rattle.lexicon.specs.Lexicon.{begins_with}
 
 -- a to z
 abbrev pub is_lowercase : ℕ → Bool
@@ -26,7 +25,3 @@ follows (Some previous) word = comes_before previous word && not (begins_with wo
 abbrev pub in_order : Option (List ℕ) → List (List ℕ) → Bool
 in_order previous [] = true
 in_order previous (word ∷ more) = is_word word && (follows previous word && in_order (Some word) more)
-
--- the words that the code holds
-abbrev pub spellings : List Word → List (List ℕ)
-spellings = map spelling

@@ -2,12 +2,11 @@
 #![tactic(auto)]
 
 ghost use Rattle.std.specs.Prelude.{◌≡◌, ℕ, List, [], slice_index_or};
-ghost use Rattle.lexicon.specs.Lexicon.{Lawful, index_of, spelling, found};
+ghost use Rattle.lexicon.specs.Lexicon.{Lawful, index_of, found};
 
 use crate::word::Word;
 use numbers::WordIndex;
 
-mod byte_order;
 pub mod number_lexicon;
 pub mod word;
 pub mod word_file;
@@ -18,7 +17,7 @@ pub trait Lexicon {
 
     /// The word of an index.
     fn word(&self, index: WordIndex) -> Word
-        ensures { spelling result ≡ slice_index_or (words self.now) index.value [] };
+        ensures { result ≡ slice_index_or (words self.now) index.value [] };
 
     /// The only index whose word begins with the bytes, or none.
     fn find(&self, bytes: &[u8]) -> Option<WordIndex>

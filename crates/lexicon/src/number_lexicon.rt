@@ -5,7 +5,7 @@ ghost use Rattle.lexicon.specs.NumberWordsLemmas as NumberWords;
 
 use crate::Lexicon;
 use crate::word::Word;
-use numbers::WordIndex;
+use numbers::{Number, WordIndex};
 
 #[derive(Clone, Copy, Debug)]
 pub struct NumberLexicon;
@@ -30,14 +30,15 @@ fn digit_value(byte: u8) -> Option<u16>
 fn decimal(bytes: &[u8]) -> Option<u16>
     ensures { MatchOption result ((n : ℕ) → n < 10000 → bytes.now ≢ digits n) (λ n. (n < 10000) × (bytes.now ≡ digits n)) }
 {
-    if bytes.len() != 4 {
+    let &[thousands, hundreds, tens, ones] = bytes else {
         return None;
-    }
-    let thousands = digit_value(bytes[0])?;
-    let hundreds = digit_value(bytes[1])?;
-    let tens = digit_value(bytes[2])?;
-    let ones = digit_value(bytes[3])?;
-    Some(thousands * 1000 + hundreds * 100 + tens * 10 + ones)
+    };
+    Some(
+        digit_value(thousands)? * 1000
+            + digit_value(hundreds)? * 100
+            + digit_value(tens)? * 10
+            + digit_value(ones)?,
+    )
 }
 
 impl Lexicon for NumberLexicon {
@@ -47,23 +48,15 @@ impl Lexicon for NumberLexicon {
 
     fn word(&self, index: WordIndex) -> Word {
         let n = index.value;
-        let bytes = [
+        Word::of(&[
             digit(n / 1000),
             digit(n / 100 % 10),
             digit(n / 10 % 10),
             digit(n % 10),
-            0,
-            0,
-            0,
-            0,
-        ];
-        Word::new(bytes, 4)
+        ])
     }
 
     fn find(&self, bytes: &[u8]) -> Option<WordIndex> {
-        match decimal(bytes) {
-            Some(n) => WordIndex::new(n),
-            None => None,
-        }
+        WordIndex::new(decimal(bytes)?)
     }
 }

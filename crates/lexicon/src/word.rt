@@ -1,30 +1,47 @@
 //! A word of a lexicon, as a value.
-ghost use Rattle.std.specs.Prelude.{◌≡◌, ◌≤◌, min, take};
+ghost use Rattle.std.specs.Prelude.{◌≡◌, ℕ, List, ◌≤◌, length, take};
 
-/// Up to eight bytes.
+use memory::Bytes;
+use std::marker::Model;
+
+/// Up to eight bytes. A clause sees the list of them.
 #[derive(Clone, Copy, Debug)]
 pub struct Word {
-    bytes: [u8; 8],
-    length: usize,
-    ghost fits: { length ≤ 8 },
+    bytes: Bytes<8>,
+}
+
+impl Model for Word {
+    ghost Value = { List ℕ };
+
+    ghost view = { λ w. w.bytes };
+
+    ghost inverse = { λ list. record { bytes = list } };
 }
 
 impl Word {
     /// The first `length` of the bytes, or all eight.
     pub fn new(bytes: [u8; 8], length: usize) -> Word
-        ensures all { result.bytes ≡ bytes }
-        ensures size { result.length ≡ min length 8 }
+        ensures { result ≡ take length bytes }
     {
-        if length <= 8 {
-            Word { bytes, length }
-        } else {
-            Word { bytes, length: 8 }
+        Word {
+            bytes: Bytes::new(bytes, length),
         }
     }
 
-    pub fn bytes(&self) -> &[u8]
-        ensures { result.now ≡ take self.now.length self.now.bytes }
+    /// The word of these bytes.
+    pub(crate) fn of(letters: &[u8]) -> Word
+        requires { length letters.now ≤ 8 }
+        ensures { result ≡ letters.now }
     {
-        &self.bytes[0..self.length]
+        let mut bytes = [0; 8];
+        bytes[..letters.len()].copy_from_slice(letters);
+        Word::new(bytes, letters.len())
+    }
+
+    pub fn bytes(&self) -> &[u8]
+        ensures bytes { result.now ≡ self.now }
+        ensures fits { length result.now ≤ 8 }
+    {
+        self.bytes.as_slice()
     }
 }

@@ -1,6 +1,6 @@
 //! The word file: a lexicon that the caller brings as bytes.
 ghost use Rattle.std.specs.Prelude.{◌≡◌, true, length, None};
-ghost use Rattle.lexicon.specs.WordOrder.{in_order, spellings};
+ghost use Rattle.lexicon.specs.WordOrder.{in_order};
 
 use crate::word::Word;
 
@@ -12,5 +12,5 @@ mod lookup;
 pub struct WordFile {
     words: [Word; 1024],
     ghost count: { length words ≡ 1024 },
-    ghost sorted: { in_order None (spellings words) ≡ true },
+    ghost sorted: { in_order None words ≡ true },
 }

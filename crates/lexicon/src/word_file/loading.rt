@@ -1,12 +1,9 @@
 //! Reading a word file, one line after the other.
 ghost use Rattle.std.specs.Prelude.{◌≡◌, ◌≤◌, length, take, if◌then◌else◌, Some, None};
-ghost use Rattle.std.specs.Option.{option_map};
-ghost use Rattle.lexicon.specs.Lexicon.{spelling};
 ghost use Rattle.lexicon.specs.WordFile.{begins_with_line, file_words, letters_of, next_word, words_of};
 ghost use Rattle.lexicon.specs.WordOrder.{follows as follows_word, letter_count};
 
 use super::WordFile;
-use crate::byte_order::{begins_with, comes_before};
 use crate::word::Word;
 use refusal::Refusal;
 
@@ -15,62 +12,44 @@ fn letter_count(bytes: &[u8]) -> usize
     ensures count { result ≡ letter_count bytes.now }
     ensures bound { result ≤ length bytes.now }
 {
-    for (i, byte) in bytes.iter().enumerate() {
-        if !byte.is_ascii_lowercase() {
-            return i;
-        }
-    }
-    bytes.len()
-}
-
-fn word_of(letters: &[u8]) -> Word
-    requires { length letters.now ≤ 8 }
-    ensures { spelling result ≡ letters.now }
-{
-    let mut bytes = [0; 8];
-    bytes[0..letters.len()].copy_from_slice(letters);
-    Word::new(bytes, letters.len())
+    bytes
+        .iter()
+        .take_while(|byte| byte.is_ascii_lowercase())
+        .count()
 }
 
 /// The word of the line that the bytes begin with: four to eight letters and a line feed.
 fn first_word(bytes: &[u8]) -> Option<Word>
-    ensures { option_map spelling result ≡ (if begins_with_line bytes.now then Some (letters_of bytes.now) else None) }
+    ensures { result ≡ (if begins_with_line bytes.now then Some (letters_of bytes.now) else None) }
 {
-    let count = letter_count(bytes);
-    if count < 4 || count > 8 || count == bytes.len() || bytes[count] != b'\n' {
-        return None;
+    let (letters, rest) = bytes.split_at(letter_count(bytes));
+    match (letters.len(), rest) {
+        (4..=8, [b'\n', ..]) => Some(Word::of(letters)),
+        _ => None,
     }
-    Some(word_of(&bytes[0..count]))
 }
 
 /// The first four bytes, or all if there are fewer.
 fn first_four(bytes: &[u8]) -> &[u8]
     ensures { result.now ≡ take 4 bytes.now }
 {
-    &bytes[0..bytes.len().min(4)]
+    bytes.get(..4).unwrap_or(bytes)
 }
 
 /// Whether a word may stand after the one before.
 fn follows(previous: Option<Word>, word: &Word) -> bool
-    ensures { result ≡ follows_word (option_map spelling previous) (spelling word.now) }
+    ensures { result ≡ follows_word previous word.now }
 {
-    match previous {
-        None => true,
-        Some(previous) => comes_before(previous.bytes(), word.bytes())
-            && !begins_with(word.bytes(), first_four(previous.bytes())),
-    }
+    previous.is_none_or(|previous| {
+        previous.bytes() < word.bytes() && !word.bytes().starts_with(first_four(previous.bytes()))
+    })
 }
 
 /// The word of the line that the bytes begin with, if that line may stand after the word before.
 fn next_word(previous: Option<Word>, bytes: &[u8]) -> Option<Word>
-    ensures { option_map spelling result ≡ next_word (option_map spelling previous) bytes.now }
+    ensures { result ≡ next_word previous bytes.now }
 {
-    let word = first_word(bytes)?;
-    if follows(previous, &word) {
-        Some(word)
-    } else {
-        None
-    }
+    first_word(bytes).filter(|word| follows(previous, word))
 }
 
 impl WordFile {
@@ -83,13 +62,10 @@ impl WordFile {
         let mut words = [Word::new([0; 8], 0); 1024];
         let mut previous = None;
         let mut offset = 0;
-        for i in 0..1024 {
-            let Some(word) = next_word(previous, &file[offset..]) else {
-                return Err(Refusal::FaultyWordFile { offset });
-            };
+        for word in &mut words {
+            *word = next_word(previous, &file[offset..]).ok_or(Refusal::FaultyWordFile { offset })?;
             offset += word.bytes().len() + 1;
-            words[i] = word;
-            previous = Some(word);
+            previous = Some(*word);
         }
         if offset < file.len() {
             return Err(Refusal::FaultyWordFile { offset });

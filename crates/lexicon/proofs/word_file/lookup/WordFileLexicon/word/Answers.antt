@@ -1,7 +1,0 @@
--- The word of an index is the word at that place.
-use Rattle.lexicon.proofs.WordFileLookup.{spelling-at}
-use Rattle.lexicon.proofs.word_file.lookup.WordFileLexicon.word.Goals as goal
-
-pub returns : goal.returns
-returns c =
-    spelling-at c.args.self.now.words c.args.index.value c.index-self-index.result c.args.self.now.count c.args.index.bound
