@@ -13,6 +13,8 @@ use Rattle.sharing.specs.Curves.{Polynomials, Curve, Share, Shares, On, OnCurve,
 use Rattle.sharing.specs.Values.{shares_of, value_through, Checked, chosen_shares, dealt_value, DealtCurve}
 use Rattle.sharing.proofs.PositionPolynomials as Positions
 use Rattle.sharing.proofs.FlatShares as Flat
+pub use Rattle.sharing.proofs.FlatShares.{bytes_take, bytes_drop}
+use Rattle.sharing.proofs.Places.{distinct_map_take}
 
 -- ---- lists
 abbrev places : List Share → List ℕ
@@ -28,16 +30,6 @@ small_places shares small = All-map (λ z. z < 256) (λ s. s.x) shares small
 pub bytes-append : (xs ys : List ℕ) → Bytes xs → Bytes ys → Bytes (xs ++ ys)
 bytes-append [] ys a b = b
 bytes-append (x ∷ xs) ys a b = (a.0, bytes-append xs ys a.1 b)
-
-pub bytes_take : (n : ℕ) (xs : List ℕ) → Bytes xs → Bytes (take n xs)
-bytes_take zero xs h = tt
-bytes_take (suc n) [] h = tt
-bytes_take (suc n) (x ∷ xs) h = (h.0, bytes_take n xs h.1)
-
-pub bytes_drop : (n : ℕ) (xs : List ℕ) → Bytes xs → Bytes (drop n xs)
-bytes_drop zero xs h = h
-bytes_drop (suc n) [] h = tt
-bytes_drop (suc n) (x ∷ xs) h = bytes_drop n xs h.1
 
 bytes-zeros : (n : ℕ) → Bytes (replicate n 0)
 bytes-zeros zero = tt
@@ -232,21 +224,11 @@ module _ (keyed : List ℕ → List ℕ → List ℕ) where
     sound_base : Shares n (take t shares)
     sound_base =
         record {
-          distinct = distinct_take t shares sound.distinct;
+          distinct = distinct_map_take (λ s. s.x) t shares sound.distinct;
           places = All-take (λ s. s.x < 256) t shares sound.places;
           lengths = All-take (λ s. length s.value ≡ n) t shares sound.lengths;
           bytes = All-take (λ s. Bytes s.value) t shares sound.bytes;
         }
-      where
-        far-take : (z : ℕ) (k : ℕ) (l : List Share) → AllByRecursion (λ y. y ≡ z → ⊥) (places l) → AllByRecursion (λ y. y ≡ z → ⊥) (places (take k l))
-        far-take z zero l all = tt
-        far-take z (suc k) [] all = tt
-        far-take z (suc k) (s ∷ l) all = (all.0, far-take z k l all.1)
-
-        distinct_take : (k : ℕ) (l : List Share) → Distinct (places l) → Distinct (places (take k l))
-        distinct_take zero l d = tt
-        distinct_take (suc k) [] d = tt
-        distinct_take (suc k) (s ∷ l) d = (far-take s.x k l d.0, distinct_take k l d.1)
 
     base-length : length (take t shares) ≡ t
     base-length = omega (arith, length-take t shares)

@@ -1,10 +1,11 @@
 -- The lemmas of the crate `sharing`.
+pub mod ElementValues
 pub mod PositionPolynomials
 pub mod Places
 pub mod FlatShares
-pub mod CurveTheorems
+pub mod LentShares
 pub mod ByteValues
-pub mod OtherShares
+pub mod CurveTheorems
 pub mod CurveAnswers
 pub mod DigestLaws
 pub mod Chosen

@@ -1,3 +1,4 @@
 -- The definitions of the crate `sharing`.
 pub mod Curves
 pub mod Values
+pub mod Props

@@ -1,117 +1,83 @@
 //! Whether shares lie on a curve, and its secret.
-ghost use Rattle.std.specs.Prelude.{◌≡◌, ◌*◌, ◌≤◌, [], length, Decides};
-ghost use Rattle.sharing.specs.Curves.{On, CurveLaws};
-ghost use Rattle.sharing.specs.Values.{Sound, shares_of, value_through, Checked, FixedAnswer, SecretAnswer};
+ghost use Rattle.std.specs.Prelude.{◌≡◌, length, Decides};
+ghost use Rattle.sharing.specs.Curves.{CurveLaws};
+ghost use Rattle.sharing.specs.Values.{SecretFits, AllFit, SecretAnswer};
+ghost use Rattle.sharing.specs.declared.curve.NoSecret.TheVariants as no_secret;
 
 use crate::checks::digest_fits;
-use crate::shares::{LONGEST_VALUE, are_sound};
-use crate::values::{fill_value, value_is};
+use crate::share::Share;
+use crate::sound::{LONGEST_VALUE, SharesFault, SoundShares};
 use digest::KeyedDigest;
 use numbers::Threshold;
 
-// Whether further shares, `n` bytes each, lie on the polynomials through the shares at `xs`.
-fn others_fit(n: usize, xs: &[u8], values: &[u8], other_xs: &[u8], others: &[u8]) -> bool
-    requires { (Sound n xs.now values.now) × ((length others.now ≡ length other_xs.now * n) × (length other_xs.now ≤ 16)) }
-    ensures { Decides result (On (value_through n (shares_of n xs.now values.now)) (shares_of n other_xs.now others.now)) }
-{
-    for i in 0..other_xs.len() {
-        if !value_is(xs, values, other_xs[i], &others[i * n..i * n + n]) {
-            return false;
-        }
-    }
-    true
+/// Why no secret is written: the first of these that is so.
+#[derive(Clone, Copy, PartialEq, Eq, Debug)]
+pub enum NoSecret {
+    /// No polynomials are laid through the shares.
+    Unsound(SharesFault),
+    /// They are fewer than the threshold.
+    TooFew,
+    /// They lie on no curve of the threshold.
+    NoCurve,
 }
 
-// Writes the value at 255, and answers whether that at 254 holds its digest, if there is more than one share.
-fn secret_fits<D: KeyedDigest>(
-    digest: &D,
-    xs: &[u8],
-    values: &[u8],
-    secret: &mut [u8],
-    check: &mut [u8],
-) -> bool
-    requires { (Sound (length secret.old) xs.now values.now) × (length check.old ≡ length secret.old) }
-    ensures secret { secret.new ≡ value_through (length secret.old) (shares_of (length secret.old) xs.now values.now) 255 }
-    ensures check { Decides result (2 ≤ length xs.now → Checked D.keyed (length secret.old) (value_through (length secret.old) (shares_of (length secret.old) xs.now values.now) 254) (value_through (length secret.old) (shares_of (length secret.old) xs.now values.now) 255)) }
+impl From<SharesFault> for NoSecret {
+    ghost from_gives = { λ fault e. e ≡ no_secret.Unsound fault };
+
+    fn from(fault: SharesFault) -> NoSecret {
+        NoSecret::Unsound(fault)
+    }
+}
+
+// Whether the value at 254 holds the digest of the secret, if there is more than one share.
+fn secret_fits<D: KeyedDigest>(digest: &D, fixing: &SoundShares<'_, '_>, secret: &[u8]) -> bool
+    requires { length secret.now ≡ fixing.now.length }
+    ensures { Decides result (SecretFits D.keyed fixing.now.length fixing.now.shares.now secret.now) }
 {
-    fill_value(xs, values, 255, secret);
-    if xs.len() < 2 {
+    if fixing.shares.len() < 2 {
         return true;
     }
-    if secret.len() < 4 {
-        return false;
-    }
-    fill_value(xs, values, 254, check);
+    let mut space = [0; LONGEST_VALUE];
+    let check = &mut space[..fixing.length];
+    fixing.fill_value(254, check);
     digest_fits(digest, check, secret)
 }
 
-// Writes the secret that the shares at `xs` fix, if the digest fits, with spaces for it and for the value at 254.
-fn checked_secret<D: KeyedDigest>(
+// Whether the others and the digest fit the secret that the shares fix.
+fn all_fit<D: KeyedDigest>(
     digest: &D,
-    xs: &[u8],
-    values: &[u8],
-    candidate: &mut [u8],
-    check: &mut [u8],
-    secret: &mut [u8],
+    fixing: &SoundShares<'_, '_>,
+    others: &[Share<'_>],
+    secret: &[u8],
 ) -> bool
-    requires { (Sound (length secret.old) xs.now values.now) × ((length candidate.old ≡ length secret.old) × (length check.old ≡ length secret.old)) }
-    ensures { FixedAnswer D.keyed (shares_of (length secret.old) xs.now values.now) [] secret.old result secret.new }
+    requires { length secret.now ≡ fixing.now.length }
+    ensures { Decides result (AllFit D.keyed fixing.now.length fixing.now.shares.now others.now secret.now) }
 {
-    if !secret_fits(digest, xs, values, candidate, check) {
-        return false;
-    }
-    secret.copy_from_slice(candidate);
-    true
+    fixing.others_fit(others) && secret_fits(digest, fixing, secret)
 }
 
-// Writes the secret that the shares at `xs` fix, if the others and the digest fit.
-fn fixed_secret<D: KeyedDigest>(
-    digest: &D,
-    xs: &[u8],
-    values: &[u8],
-    other_xs: &[u8],
-    others: &[u8],
-    secret: &mut [u8],
-) -> bool
-    requires { (Sound (length secret.old) xs.now values.now) × ((length others.now ≡ length other_xs.now * length secret.old) × (length other_xs.now ≤ 16)) }
-    ensures { FixedAnswer D.keyed (shares_of (length secret.old) xs.now values.now) (shares_of (length secret.old) other_xs.now others.now) secret.old result secret.new }
-{
-    let n = secret.len();
-    if !others_fit(n, xs, values, other_xs, others) {
-        return false;
-    }
-    let mut candidate = [0; LONGEST_VALUE];
-    let mut check = [0; LONGEST_VALUE];
-    checked_secret(
-        digest,
-        xs,
-        values,
-        &mut candidate[0..n],
-        &mut check[0..n],
-        secret,
-    )
-}
-
-/// Writes the secret of the shares at `xs`, if they are as many as the threshold asks, or more, and lie on a curve of that threshold.
-/// The shares' values stand one after the other and have as many bytes as `secret`.
-/// It is not written, and the answer is false, if they lie on no such curve, two places are equal, there are more than 16
-/// or fewer than the threshold, a value has more than 64 bytes, or `values` has another length.
+/// Writes the secret of the shares, if they are as many as the threshold asks, or more, and lie on a curve of that threshold.
+/// It is not written, and the answer says why, if there are more than 16, `secret` has more than 64 bytes, a share's value
+/// has another length, two places are equal, they are fewer than the threshold, or they lie on no such curve.
 pub fn curve_secret<D: KeyedDigest>(
     digest: &D,
     threshold: Threshold,
-    xs: &[u8],
-    values: &[u8],
+    shares: &[Share<'_>],
     secret: &mut [u8],
-) -> bool
-    ensures answer { SecretAnswer D.keyed threshold.value xs.now values.now secret.old result secret.new }
+) -> Result<(), NoSecret>
+    ensures answer { SecretAnswer D.keyed threshold.value shares.now secret.old result secret.new }
     ensures laws { CurveLaws D.keyed }
 {
-    let n = secret.len();
-    let t = usize::from(threshold.value);
-    if !are_sound(n, xs, values) || xs.len() < t {
-        return false;
+    let sound = SoundShares::new(shares, secret.len())?;
+    let Some((fixing, others)) = sound.split_at(usize::from(threshold.value)) else {
+        return Err(NoSecret::TooFew);
+    };
+    let mut space = [0; LONGEST_VALUE];
+    let candidate = &mut space[..secret.len()];
+    fixing.fill_value(255, candidate);
+    if !all_fit(digest, &fixing, others, candidate) {
+        return Err(NoSecret::NoCurve);
     }
-    let (first_xs, other_xs) = xs.split_at(t);
-    let (first_values, others) = values.split_at(t * n);
-    fixed_secret(digest, first_xs, first_values, other_xs, others, secret)
+    secret.copy_from_slice(candidate);
+    Ok(())
 }

@@ -4,9 +4,12 @@
 mod checks;
 mod curve;
 mod dealing;
-mod shares;
+mod share;
+mod sound;
 mod values;
 
-pub use curve::curve_secret;
-pub use dealing::curve_value;
+pub use curve::{NoSecret, curve_secret};
+pub use dealing::{NotDealt, curve_value};
+pub use share::Share;
+pub use sound::SharesFault;
 pub use values::value_at;

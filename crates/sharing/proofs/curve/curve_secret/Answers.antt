@@ -1,66 +1,52 @@
 -- Each way out of `curve_secret`.
-use Rattle.std.proofs.Common.{◌≡◌, ℕ, ◌*◌, ◌<◌, ◌≤◌, Bool, true, false, length, take, drop, sym, ap, ◌∙◌, subst, inl, inr, arith}
+use Rattle.std.proofs.Common.{◌≤◌, length, take, drop, refl, ◌∙◌, subst, ap₂}
+use Rattle.sharing.specs.Curves.{CurveLaws}
 use Rattle.sharing.specs.Values.{Sound}
-use Rattle.sharing.proofs.ByteValues.{bytes-typed, shares-sound}
-use Rattle.sharing.proofs.CurveAnswers.{first_within, sound_first, others_filled, few-others, not_sound, too_few, secret_answer}
+use Rattle.sharing.proofs.CurveAnswers.{secret_no, secret_yes}
 use Rattle.sharing.proofs.DigestLaws as Laws
+use Rattle.sharing.proofs.curve.curve_secret.Given.{Over}
 use Rattle.sharing.proofs.curve.curve_secret.Goals as goal
 
-never : (r : Bool) → r ≡ false → r ≡ true → ⊥
-never r a b = let z : ◌≡◌ {A = ℕ} 0 1 = cc in omega arith
+laws : (g : Over) → CurveLaws g.D.KeyedDigest.keyed
+laws g = let m = g.met.D.KeyedDigest in Laws.laws g.D.KeyedDigest.keyed g.D.KeyedDigest.size m.small m.sized m.bytes
 
-pub returns-then-not-are_sound : goal.returns-then-not-are_sound
-returns-then-not-are_sound g c =
+pub returns-in_err-sound-clause-laws : goal.returns-in_err-sound-clause-laws
+returns-in_err-sound-clause-laws g c = laws g
+
+pub returns-in_default-clause-laws : goal.returns-in_default-clause-laws
+returns-in_default-clause-laws g c = laws g
+
+pub returns-then-not-all_fit-clause-laws : goal.returns-then-not-all_fit-clause-laws
+returns-then-not-all_fit-clause-laws g c = laws g
+
+pub returns-clause-laws : goal.returns-clause-laws
+returns-clause-laws g c = laws g
+
+pub returns-then-not-all_fit-clause-answer : goal.returns-then-not-all_fit-clause-answer
+returns-then-not-all_fit-clause-answer g c =
     let d = g.D.KeyedDigest in
     let m = g.met.D.KeyedDigest in
-    let four = Laws.four d.keyed d.size m.small m.sized m.bytes in
-    let t = c.args.threshold.value in
-    record {
-      answer = elim c.then-not-are_sound.either [
-        | inl unsound ↦ not_sound d.keyed four t c.args.xs.now c.args.values.now c.args.secret.now c.args.threshold.least
-            (λ s. never c.are_sound.result unsound (c.are_sound.ensures.1 s))
-        | inr few ↦ too_few d.keyed four t c.args.xs.now c.args.values.now c.args.secret.now c.args.threshold.least
-            (subst (λ k. length c.args.xs.now < k) c.from-t.ensures few.1)
-      ];
-      laws = Laws.laws d.keyed d.size m.small m.sized m.bytes;
-    }
-
-pub split_at-requires-2 : goal.split_at-requires-2
-split_at-requires-2 g c =
-    first_within c.from-t.result (length c.args.secret.now) c.args.xs.now c.args.values.now (c.are_sound.ensures.0 c.if-not-are_sound.false) c.if-xs-t.false
-
-pub fixed_secret-requires : goal.fixed_secret-requires
-fixed_secret-requires g c =
-    let n = length c.args.secret.now in
-    let t = c.from-t.result in
-    let xs = c.args.xs.now in
-    let values = c.args.values.now in
-    let sound = c.are_sound.ensures.0 c.if-not-are_sound.false in (
-      subst (λ l. Sound n l c.split_at-2.result.0.now) (sym c.split_at.ensures.front)
-          (subst (λ l. Sound n (take t xs) l) (sym c.split_at-2.ensures.front) (sound_first t n xs values sound c.if-xs-t.false)),
-      (
-        ap length c.split_at-2.ensures.back ∙ others_filled t n xs values sound c.if-xs-t.false ∙ ap (λ l. length l * n) (sym c.split_at.ensures.back),
-        subst (λ l. length l ≤ 16) (sym c.split_at.ensures.back) (few-others t n xs values sound c.if-xs-t.false),
-      ),
+    let held = c.in_ok-sound.sound in
+    let a = c.in_ok-sound.ensures in
+    let b = c.in-Some.ensures in
+    let no = c.if-not-all_fit.true in (
+      secret_no d.keyed (Laws.four d.keyed d.size m.small m.sized m.bytes) c.args.threshold.value (length c.args.secret.now) c.args.shares.now
+          (subst (λ k. Sound k c.args.shares.now) a.1 (subst (Sound held.length) a.0 held.sound)) c.args.threshold.least
+          (subst (λ k. k ≤ length c.args.shares.now) c.from.ensures (subst (λ l. c.from.result ≤ length l) a.0 b.0))
+          c.in-Some.fixing.length c.in-Some.fixing.shares.now c.in-Some.others.now (b.2 ∙ a.1) (b.1 ∙ ap₂ take c.from.ensures a.0) (b.3 ∙ ap₂ drop c.from.ensures a.0)
+          c.fill_value.new.value c.fill_value.ensures (λ fit. let yes-is = c.all_fit.ensures.1 fit in cc),
+      refl,
     )
 
-pub returns : goal.returns
-returns g c =
+pub returns-clause-answer : goal.returns-clause-answer
+returns-clause-answer g c =
     let d = g.D.KeyedDigest in
     let m = g.met.D.KeyedDigest in
-    let four = Laws.four d.keyed d.size m.small m.sized m.bytes in
-    let n = length c.args.secret.now in
-    let t = c.args.threshold.value in
-    let xs = c.args.xs.now in
-    let values = c.args.values.now in
-    let e : c.from-t.result ≡ t = c.from-t.ensures in
-    let sound = c.are_sound.ensures.0 c.if-not-are_sound.false in
-    record {
-      answer = secret_answer d.keyed four t xs values c.args.secret.now c.args.threshold.least
-          (shares-sound n xs values (bytes-typed xs c.type_inv.xs) (bytes-typed values c.type_inv.values) sound) sound
-          (subst (λ k. k ≤ length xs) e c.if-xs-t.false)
-          c.split_at.result.0.now c.split_at-2.result.0.now c.split_at.result.1.now c.split_at-2.result.1.now c.fixed_secret.result c.fixed_secret.new.secret
-          (c.split_at.ensures.front ∙ ap (λ k. take k xs) e) (c.split_at-2.ensures.front ∙ ap (λ k. take (k * n) values) e)
-          (c.split_at.ensures.back ∙ ap (λ k. drop k xs) e) (c.split_at-2.ensures.back ∙ ap (λ k. drop (k * n) values) e) c.fixed_secret.ensures;
-      laws = Laws.laws d.keyed d.size m.small m.sized m.bytes;
-    }
+    let held = c.in_ok-sound.sound in
+    let a = c.in_ok-sound.ensures in
+    let b = c.in-Some.ensures in
+    secret_yes d.keyed (Laws.four d.keyed d.size m.small m.sized m.bytes) c.args.threshold.value (length c.args.secret.now) c.args.shares.now
+    (subst (λ k. Sound k c.args.shares.now) a.1 (subst (Sound held.length) a.0 held.sound)) c.args.threshold.least
+    (subst (λ k. k ≤ length c.args.shares.now) c.from.ensures (subst (λ l. c.from.result ≤ length l) a.0 b.0))
+    c.in-Some.fixing.length c.in-Some.fixing.shares.now c.in-Some.others.now (b.2 ∙ a.1) (b.1 ∙ ap₂ take c.from.ensures a.0) (b.3 ∙ ap₂ drop c.from.ensures a.0)
+    c.fill_value.new.value c.fill_value.ensures (c.all_fit.ensures.0 c.if-not-all_fit.false) c.copy_from_slice.new.self c.copy_from_slice.ensures.after

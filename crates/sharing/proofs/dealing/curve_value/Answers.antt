@@ -1,51 +1,43 @@
 -- Each way out of `curve_value`.
-use Rattle.std.proofs.Common.{◌≡◌, ℕ, Bool, true, false, sym, refl, subst, arith}
-use Rattle.sharing.specs.Values.{Dealable}
-use Rattle.sharing.proofs.Chosen.{dealt_one, dealt_more}
+use Rattle.std.proofs.Common.{◌*◌, ◌≤◌, length, take, refl, sym, ap, ◌∙◌, subst, mul-le-mul_right, arith, length-take}
+use Rattle.sharing.specs.Values.{value_through, Dealable, DealtCurve}
+use Rattle.sharing.proofs.Chosen.{sound_fixing, chosen-is, dealt_more}
 use Rattle.sharing.proofs.DigestLaws as Laws
+use Rattle.sharing.proofs.dealing.curve_value.Given.{Over}
 use Rattle.sharing.proofs.dealing.curve_value.Goals as goal
 
-never : (r : Bool) → r ≡ false → r ≡ true → ⊥
-never r a b = let z : ◌≡◌ {A = ℕ} 0 1 = cc in omega arith
+dealt : (g : Over) → DealtCurve g.D.KeyedDigest.keyed
+dealt g = let m = g.met.D.KeyedDigest in Laws.dealt g.D.KeyedDigest.keyed g.D.KeyedDigest.size m.small m.sized m.bytes
 
-pub returns-then-not-are_dealable : goal.returns-then-not-are_dealable
-returns-then-not-are_dealable g c =
-    let d = g.D.KeyedDigest in
-    let m = g.met.D.KeyedDigest in
+pub returns-in_err-check_lengths-clause-curve : goal.returns-in_err-check_lengths-clause-curve
+returns-in_err-check_lengths-clause-curve g c = dealt g
+
+pub returns-then-t-lt2-clause-curve : goal.returns-then-t-lt2-clause-curve
+returns-then-t-lt2-clause-curve g c = dealt g
+
+pub returns-clause-curve : goal.returns-clause-curve
+returns-clause-curve g c = dealt g
+
+pub invariant_of-fixing : goal.invariant_of-fixing
+invariant_of-fixing g c =
+    let given = c.in_ok-check_lengths.ensures in
+    let n = length c.args.secret.now in
+    let one : 1 * n ≤ c.from-t.result * n = mul-le-mul_right n (omega arith) in
+    let room : c.from-t.result * n ≤ length c.args.work.now = given.room in
+    let most : c.from-t.result ≤ 16 = subst (λ t. t ≤ 16) (sym c.from-t.ensures) c.args.threshold.most in
     record {
-      answer = (
-        (λ given. never c.are_dealable.result c.if-not-are_dealable.true
-            (c.are_dealable.ensures.1
-            (subst (λ t. Dealable t c.args.secret.now c.args.drawn.now c.args.work.now c.args.value.now) (sym c.from-t.ensures) given))),
-        refl,
-      );
-      curve = Laws.dealt d.keyed d.size m.small m.sized m.bytes;
+      sound = sound_fixing (length c.args.secret.now) c.from-t.result (take c.from-t.result c.fixing_shares-shares.result) c.split_at.result.0.now c.fill_check.new.check
+          c.args.secret.now most given.short (omega (arith, length-take c.from-t.result c.fixing_shares-shares.result)) c.split_at.ensures.front_len
+          (c.fill_check.auto.check ∙ omega (arith, length-take n c.args.work.now)) refl c.fixing_shares-shares.ensures;
     }
 
-pub returns-then-t-lt2 : goal.returns-then-t-lt2
-returns-then-t-lt2 g c =
-    let d = g.D.KeyedDigest in
-    let m = g.met.D.KeyedDigest in
-    record {
-      answer = (
-        subst (λ t. Dealable t c.args.secret.now c.args.drawn.now c.args.work.now c.args.value.now) c.from-t.ensures
-            (c.are_dealable.ensures.0 c.if-not-are_dealable.false),
-        dealt_one d.keyed c.args.secret.now c.args.drawn.now c.args.x c.args.threshold.value c.from-t.result c.copy_from_slice.new.self
-            c.from-t.ensures c.if-t-lt2.true c.copy_from_slice.ensures.after,
-      );
-      curve = Laws.dealt d.keyed d.size m.small m.sized m.bytes;
-    }
-
-pub returns : goal.returns
-returns g c =
-    let d = g.D.KeyedDigest in
-    let m = g.met.D.KeyedDigest in
-    record {
-      answer = (
-        subst (λ t. Dealable t c.args.secret.now c.args.drawn.now c.args.work.now c.args.value.now) c.from-t.ensures
-            (c.are_dealable.ensures.0 c.if-not-are_dealable.false),
-        dealt_more d.keyed c.args.secret.now c.args.drawn.now c.args.x c.args.threshold.value c.from-t.result c.fill_dealt.new.value
-            c.from-t.ensures c.if-t-lt2.false c.fill_dealt.ensures,
-      );
-      curve = Laws.dealt d.keyed d.size m.small m.sized m.bytes;
-    }
+pub returns-clause-answer : goal.returns-clause-answer
+returns-clause-answer g c = (
+  subst (λ t. Dealable t c.args.secret.now c.args.drawn.now c.args.work.now c.args.value.now) c.from-t.ensures c.in_ok-check_lengths.ensures,
+  dealt_more g.D.KeyedDigest.keyed c.args.secret.now c.args.drawn.now c.args.x c.args.threshold.value c.from-t.result c.fill_value.new.value c.from-t.ensures c.if-t-lt2.false
+      (c.fill_value.ensures
+      ∙ ap (λ l. value_through (length c.args.secret.now) l c.args.x)
+      (c.fixing_shares-shares.ensures
+      ∙ chosen-is g.D.KeyedDigest.keyed c.from-t.result c.args.secret.now c.args.drawn.now c.split_at.result.0.now c.split_at.result.1.now c.fill_check.new.check
+      c.split_at.ensures.front c.split_at.ensures.back c.fill_check.ensures)),
+)

@@ -1,0 +1,6 @@
+-- Fewer shares are left.
+use Rattle.std.proofs.Common.{length}
+use Rattle.sharing.proofs.sound.+are_apart.Given as goal
+
+abbrev pub decreases-are_apart : goal.decreases-are_apart
+decreases-are_apart l = length l.shares.now
