@@ -17,6 +17,7 @@ fn digit(value: u16) -> u8
     b'0' + value as u8
 }
 
+// The library's `to_digit` takes a `char` and answers a `u32`, which would have to be narrowed again.
 fn digit_value(byte: u8) -> Option<u16>
     ensures { MatchOption result ((n : ℕ) → n < 10 → byte ≢ 48 + n) (λ n. (n < 10) × (byte ≡ 48 + n)) }
 {
@@ -48,6 +49,7 @@ impl Lexicon for NumberLexicon {
 
     fn word(&self, index: WordIndex) -> Word {
         let n = index.value;
+        // Written out as `digits` is: over an array of powers of ten it is no plainer.
         Word::of(&[
             digit(n / 1000),
             digit(n / 100 % 10),
