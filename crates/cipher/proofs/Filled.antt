@@ -1,8 +1,10 @@
 -- A space that is filled with the blocks of PBKDF2, one after the other.
-use Rattle.std.proofs.Common.{◌≡◌, ℕ, zero, suc, ◌+◌, ◌-◌, ◌*◌, ◌/◌, ◌%◌, ◌<◌, ◌≤◌, min, List, [], ◌∷◌, ◌++◌, length, take, sym, ap, ap₂, ◌∙◌, zero-add, add-one, arith}
+use Rattle.std.proofs.Common.{◌≡◌, ℕ, zero, suc, ◌+◌, ◌-◌, ◌*◌, ◌/◌, ◌%◌, ◌<◌, ◌≤◌, min, List, ◌++◌, length, take, sym, ap, ap₂, ◌∙◌, add-one, arith}
 use Rattle.std.proofs.Math.Nat.{add-mul}
+use Rattle.std.proofs.Math.Seq.{take-append-add}
 use Rattle.std.proofs.lemmas.Nat.{div-add-mod', div-mul-add, mod_below, mul-le}
 use Rattle.std.proofs.lemmas.List.{take_all, length-take-le}
+use Rattle.std.proofs.lemmas.Grind.{div_ceil_times}
 use Rattle.std.proofs.lemmas.Slice.{take-put_mid}
 use Rattle.std.specs.Int.{div_ceil}
 use borrow.Rule.Slice.PartMut.{put_mid}
@@ -21,15 +23,8 @@ pub div_ceil-is : (n L : ℕ) → 0 < L → div_ceil n L ≡ block_count L n
 div_ceil-is n L pos = ceil_of n L (n / L) (n % L) (mod_below n L pos) (div-add-mod' n L)
 
 -- a block before the last ends before the result does
-pub block_within : (L n i : ℕ) → 0 < L → i < block_count L n → i * L < n
-block_within L n i pos h = omega (arith, div-add-mod' (n + L - 1) L, mul-le (i + 1) L (block_count L n) L (omega arith) (omega arith), add-mul i 1 L)
-
--- all of a list, and so many elements of the next
-take-append : (a b : List ℕ) (k : ℕ) → take (length a + k) (a ++ b) ≡ a ++ take k b
-take-append [] b k = ap (λ n. take n b) (zero-add k)
-take-append (x ∷ a) b k =
-    let count : suc (length a) + k ≡ suc (length a + k) = omega arith in
-    ap (λ n. take n (x ∷ (a ++ b))) count ∙ ap (λ (ys : List ℕ). x ∷ ys) (take-append a b k)
+within : (L n i : ℕ) → 0 < L → i < div_ceil n L → i * L < n
+within L n i pos h = omega (arith, div_ceil_times n L pos, mul-le (i + 1) L (div_ceil n L) L (omega arith) (omega arith), add-mul i 1 L)
 
 blocks_more : (f : List ℕ → List ℕ) (salt : List ℕ) (c l : ℕ) → blocks f salt c (l + 1) ≡ blocks f salt c l ++ combined f (salt ++ int (l + 1)) c
 unfolding blocks
@@ -41,7 +36,7 @@ module _ (prf : List ℕ → List ℕ → List ℕ) (password : List ℕ) (L : �
       take (min (i * L) n) space ≡ take (min (i * L) n) (blocks (prf password) salt c i) → block ≡ combined (prf password) (salt ++ int (i + 1)) c → length block ≡ L → cut ≡ take (end - at) block →
       take (min ((i + 1) * L) n) (put_mid at (end - at) space cut) ≡ take (min ((i + 1) * L) n) (blocks (prf password) salt c (i + 1))
   one_more n i at end space block cut h long ea ee held eb sized-block ec =
-      let within : i * L < n = block_within L n i pos (rw (sym (div_ceil-is n L pos)) h) in
+      let inside : i * L < n = within L n i pos h in
       let at' : min (i * L) n ≡ at = omega arith in
       let end' : min ((i + 1) * L) n ≡ end = omega (arith, add-mul i 1 L) in
       let size : length cut ≡ end - at = ap length ec ∙ length-take-le (end - at) block (omega arith) in
@@ -51,7 +46,7 @@ module _ (prf : List ℕ → List ℕ → List ℕ) (password : List ℕ) (L : �
       ap (λ k. take k (put_mid at (end - at) space cut)) end'
       ∙ take-put_mid at (end - at) space cut end (omega arith) (omega arith)
       ∙ ap₂ ◌++◌ front ec
-      ∙ sym (take-append (blocks (prf password) salt c i) block (end - at))
+      ∙ sym (take-append-add (blocks (prf password) salt c i) block (end - at))
       ∙ ap₂ (λ k (b : List ℕ). take k (blocks (prf password) salt c i ++ b)) (omega (arith, all)) eb
       ∙ ap (λ k. take k (blocks (prf password) salt c i ++ combined (prf password) (salt ++ int (i + 1)) c)) (sym end')
       ∙ ap (take (min ((i + 1) * L) n)) (sym (blocks_more (prf password) salt c i))

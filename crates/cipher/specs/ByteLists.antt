@@ -1,18 +1,10 @@
 -- Lists of bytes, and that the result of PBKDF2 is one.
-use Rattle.std.specs.Prelude.{ℕ, zero, suc, ◌<◌, Bool, true, false, List, [], ◌∷◌, ◌++◌, take}
+use Rattle.std.specs.Prelude.{ℕ, zero, suc, ◌<◌, Bool, true, false, List, [], ◌∷◌, ◌++◌}
 use Rattle.std.proofs.Common.{arith, lit<}
+use Rattle.std.proofs.ByRecursion.{All-append, All-take}
 use Rattle.std.proofs.lemmas.Nat.{xor_lt}
 use Rattle.digest.specs.Keyed.{Bytes, xors}
 use Rattle.cipher.specs.Stretching.{int, iterated, combined, blocks, block_count, pbkdf2, salt_of}
-
-bytes-append : (xs ys : List ℕ) → Bytes xs → Bytes ys → Bytes (xs ++ ys)
-bytes-append [] ys h k = k
-bytes-append (x ∷ xs) ys h k = (h.0, bytes-append xs ys h.1 k)
-
-bytes_take : (n : ℕ) (xs : List ℕ) → Bytes xs → Bytes (take n xs)
-bytes_take zero xs h = tt
-bytes_take (suc n) [] h = tt
-bytes_take (suc n) (x ∷ xs) h = (h.0, bytes_take n xs h.1)
 
 bytes-xors : (xs ys : List ℕ) → Bytes xs → Bytes ys → Bytes (xors xs ys)
 bytes-xors [] ys h k = tt
@@ -42,9 +34,9 @@ module _ (f : List ℕ → List ℕ) (bytes : (m : List ℕ) → Bytes m → Byt
   unfolding blocks
   bytes-blocks salt c zero h = tt
   bytes-blocks salt c (suc l) h =
-      bytes-append (blocks f salt c l) (combined f (salt ++ int (suc l)) c) (bytes-blocks salt c l h) (bytes-combined (salt ++ int (suc l)) c (bytes-append salt (int (suc l)) h (bytes-int (suc l))))
+      All-append _ (blocks f salt c l) (combined f (salt ++ int (suc l)) c) (bytes-blocks salt c l h) (bytes-combined (salt ++ int (suc l)) c (All-append _ salt (int (suc l)) h (bytes-int (suc l))))
 
 pub bytes-pbkdf2 : (prf : List ℕ → List ℕ → List ℕ) → ((k m : List ℕ) → Bytes k → Bytes m → Bytes (prf k m)) → (L : ℕ) (password salt : List ℕ) (c n : ℕ) → Bytes password → Bytes salt → Bytes (pbkdf2 prf L password salt c n)
 unfolding pbkdf2
 bytes-pbkdf2 prf bytes L password salt c n h k =
-    bytes_take n (blocks (prf password) salt c (block_count L n)) (bytes-blocks (prf password) (λ m. bytes password m h) salt c (block_count L n) k)
+    All-take _ n (blocks (prf password) salt c (block_count L n)) (bytes-blocks (prf password) (λ m. bytes password m h) salt c (block_count L n) k)

@@ -1,5 +1,5 @@
 -- The cipher: four rounds over two halves. F i is what round i makes of a half.
-use Rattle.std.specs.Prelude.{◌≡◌, ℕ, ◌/◌, ◌%◌, Bool, true, cond, ◌&&◌, List, [], ◌∷◌, ◌++◌, map, length, take, drop, Ok, Err, Result, ◌==◌, nat_le}
+use Rattle.std.specs.Prelude.{◌≡◌, ℕ, ◌/◌, ◌%◌, Bool, true, cond, ◌&&◌, List, ◌++◌, fold, length, take, drop, Ok, Err, Result, ◌==◌, nat_le}
 use Rattle.numbers.specs.declared.Parameters.{Parameters}
 use Rattle.numbers.specs.declared.RoundNumber.{RoundNumber}
 use Rattle.refusal.specs.declared.Refusal.{Refusal}
@@ -34,15 +34,11 @@ right_then_left h = h.right ++ h.left
 unfoldable pub network : (ℕ → List ℕ → List ℕ) → ℕ → ℕ → ℕ → ℕ → List ℕ → List ℕ
 network F a b c d m = right_then_left (turned (F d) (turned (F c) (turned (F b) (turned (F a) (halved m)))))
 
-abbrev pub numbers_of : List RoundNumber → List ℕ
-numbers_of order = map (λ (round : RoundNumber). round.value) order
-
 -- the rounds of a list, one after the other
-abbrev pub all_turned : (ℕ → List ℕ → List ℕ) → List ℕ → Halves → Halves
-all_turned F [] h = h
-all_turned F (i ∷ more) h = all_turned F more (turned (F i) h)
+abbrev pub all_turned : (ℕ → List ℕ → List ℕ) → List RoundNumber → Halves → Halves
+all_turned F order halves = fold (λ (h : Halves) (round : RoundNumber). turned (F round.value) h) halves order
 
-abbrev pub in_rounds : (ℕ → List ℕ → List ℕ) → List ℕ → List ℕ → List ℕ
+abbrev pub in_rounds : (ℕ → List ℕ → List ℕ) → List RoundNumber → List ℕ → List ℕ
 in_rounds F order m = right_then_left (all_turned F order (halved m))
 
 abbrev pub encrypted : (ℕ → List ℕ → List ℕ) → List ℕ → List ℕ

@@ -10,6 +10,7 @@ use numbers::{Exponent, Identifier, Number, Parameters, RoundNumber};
 
 /// Stretching for a C caller, which can pass any number: writes to the front of `out` and answers true; false, with nothing
 /// written, if a number is out of range or the input is refused.
+// Bare numbers and a `bool`, since C calls it so.
 pub fn stretch_for_c<D: KeyedDigest + Copy>(
     digest: &D,
     round: u8,

@@ -2,7 +2,7 @@
 ghost use Rattle.std.specs.Prelude.{◌≡◌, ◌+◌, ◌/◌, ◌≤◌, true, length, replicate, Ok};
 ghost use Rattle.cipher.specs.Passphrase.{passphrase_answer};
 ghost use Rattle.cipher.specs.Answers.{replaced};
-ghost use Rattle.cipher.specs.Feistel.{with_parameters, halved, turned, numbers_of, in_rounds, encrypted, decrypted, is_secret_length, cipher_answer, Undone};
+ghost use Rattle.cipher.specs.Feistel.{with_parameters, halved, turned, in_rounds, encrypted, decrypted, is_secret_length, cipher_answer, Undone};
 
 use crate::passphrase::check_passphrase;
 use crate::round::RoundFunction;
@@ -51,7 +51,7 @@ impl<F: RoundFunction> Setting<'_, '_, F> {
         requires lawful { passphrase_answer self.now.passphrase.now ≡ Ok tt }
         requires fits { is_secret_length (length secret.old) ≡ true }
         requires room { length work.old ≡ length secret.old / 2 }
-        ensures writes { secret.new ≡ in_rounds (with_parameters F.function self.now.passphrase.now self.now.parameters) (numbers_of order) secret.old }
+        ensures writes { secret.new ≡ in_rounds (with_parameters F.function self.now.passphrase.now self.now.parameters) order secret.old }
         ensures wiped { work.new ≡ replicate (length work.old) 0 }
     {
         let half = work.len();
@@ -65,7 +65,7 @@ impl<F: RoundFunction> Setting<'_, '_, F> {
     // Does the same to a lawful secret, under a lawful passphrase, and answers how many bytes it has.
     fn replace(&self, order: [RoundNumber; 4], secret: &mut [u8]) -> Result<usize, Refusal>
         ensures answer { result ≡ cipher_answer self.now.passphrase.now secret.old }
-        ensures writes { secret.new ≡ replaced result (in_rounds (with_parameters F.function self.now.passphrase.now self.now.parameters) (numbers_of order) secret.old) secret.old }
+        ensures writes { secret.new ≡ replaced result (in_rounds (with_parameters F.function self.now.passphrase.now self.now.parameters) order secret.old) secret.old }
     {
         let length = check_secret(self.passphrase, secret)?;
         let mut work = [0; 32];

@@ -123,6 +123,7 @@ impl<D: KeyedDigest> RoundFunction for Stretching<D> {
         out: &mut [u8],
     ) -> Result<usize, Refusal> {
         let length = check_round(passphrase, half, out)?;
+        // Arrays with a length beside them, since a secret lies in plain memory that can be wiped.
         let mut password = [0; 101];
         let mut text = [0; 44];
         self.stretch(
