@@ -1,6 +1,6 @@
 -- The pieces of a line, one byte after the other, as the state machine sees them.
-use Rattle.std.proofs.Common.{◌≡◌, ℕ, ◌+◌, ◌-◌, ◌<◌, ◌≤◌, ◌⊎◌, List, [], ◌∷◌, ◌++◌, length, get_or, take, drop, sym, ap, ◌∙◌, ap₂, inl, inr, arith, length-drop}
-use Rattle.std.proofs.lemmas.List.{at_drop_more, at_drop_all, take_more, get_or-drop, take_all, drop_more}
+use Rattle.std.proofs.Common.{◌≡◌, ℕ, ◌+◌, ◌-◌, ◌<◌, ◌≤◌, ◌⊎◌, List, [], ◌∷◌, ◌++◌, length, get_or, take, drop, sym, ap, ◌∙◌, subst, ap₂, inl, inr, arith, length-drop}
+use Rattle.std.proofs.lemmas.List.{at_drop_more, at_drop_all, take_more, get_or-drop, get_or-take, take_all, drop_more}
 use Rattle.reader.specs.declared.line.State.{State}
 use Rattle.reader.specs.declared.line.State.TheVariants.{Between, InWord, InRemark}
 use Rattle.reader.specs.declared.line.Class.{Class}
@@ -30,6 +30,21 @@ abbrev pub Began : ℕ → State → ℕ → Type 0
 Began p Between i = Unit {0}
 Began p (InWord start) i = (p ≤ start) × (start < i)
 Began p (InRemark start) i = (p ≤ start) × (start < i)
+
+-- one turn from state s to state t, which are a and b
+pub went : (line : List ℕ) (p i j : ℕ) (s t a b : State) → s ≡ a → t ≡ b → j ≡ i + 1 → Began p b (i + 1) → told line a i ≡ told line b (i + 1)
+    → Began p t j × (told line s i ≡ told line t j)
+went line p i j s t a b es et ej h e = (
+  subst (Began p t) (sym ej) (subst (λ x. Began p x (i + 1)) (sym et) h),
+  ap (λ x. told line x i) es ∙ e ∙ ap (λ x. told line x (i + 1)) (sym et) ∙ ap (told line t) (sym ej),
+)
+
+-- a byte of what is left of the line
+pub byte-left : (line : List ℕ) (p k : ℕ) → k < length line - p → get_or (take (length line - p) (drop p line)) k 0 ≡ get_or line (p + k) 0
+byte-left line p k h = get_or-take (length line - p) (drop p line) k 0 h ∙ get_or-drop p line k 0
+
+pub bytes-left : (line : List ℕ) (p : ℕ) → length (take (length line - p) (drop p line)) ≡ length line - p
+bytes-left line p = ap length (take_all (length line - p) (drop p line) (omega (arith, length-drop p line))) ∙ length-drop p line
 
 module _ (line : List ℕ) (i : ℕ) (lt : i < length line) where
   rest : List ℕ

@@ -1,5 +1,5 @@
 //! From a card's words to its fields.
-ghost use Rattle.std.specs.Prelude.{◌≡◌, ℕ, ◌+◌, ◌-◌, ◌*◌, ◌/◌, ◌<◌, ◌≤◌, true, List, length, take};
+ghost use Rattle.std.specs.Prelude.{◌≡◌, ℕ, ◌+◌, ◌-◌, ◌*◌, ◌/◌, ◌%◌, ◌^◌, ◌<◌, ◌≤◌, true, List, length, take};
 ghost use Rattle.reader.specs.Bits.{bits_at};
 ghost use Rattle.checksum.specs.Values.{values};
 ghost use Rattle.reader.specs.Reading.{bytes_at, count_fits, fields_in, checked_fields, checked_words, card_in, meant, padding_bits, value_length};
@@ -12,58 +12,18 @@ use crate::value::Value;
 use crate::words::Words;
 use checksum::is_right;
 use field::gf1024::Gf1024;
-use numbers::{Exponent, GroupCount, GroupNumber, Identifier, MemberNumber, Threshold};
+use numbers::{Exponent, GroupCount, GroupNumber, Identifier, MemberNumber, Number, Threshold};
 use refusal::Refusal;
 
-/// Four bits of the first four words.
-fn nibble(words: &[Gf1024], from: usize) -> u8
-    requires { (from ≤ 36) × (20 ≤ length words.now) }
-    ensures value { result ≡ bits_at (values words.now) from 4 }
-    ensures bound { result < 16 }
+/// The number of a type of its own that `count` bits write, with `more` added.
+fn number<N: Number>(words: &[Gf1024], from: usize, count: u32, more: u16) -> N
+    requires early { (from + count ≤ 40) × (20 ≤ length words.now) }
+    requires narrow { from % 10 + count ≤ 20 }
+    requires least { N.LEAST ≤ more }
+    requires most { 2 ^ count + more ≤ N.MOST + 1 }
+    ensures { N.number result ≡ bits_at (values words.now) from count + more }
 {
-    bits_at(words, from, 4) as u8
-}
-
-fn threshold(words: &[Gf1024], from: usize) -> Threshold
-    requires { (from ≤ 36) × (20 ≤ length words.now) }
-    ensures { result.value ≡ bits_at (values words.now) from 4 + 1 }
-{
-    Threshold::new(nibble(words, from) + 1).unwrap()
-}
-
-fn identifier(words: &[Gf1024]) -> Identifier
-    requires { 20 ≤ length words.now }
-    ensures { result.value ≡ bits_at (values words.now) 0 15 }
-{
-    Identifier::new(bits_at(words, 0, 15) as u16).unwrap()
-}
-
-fn exponent(words: &[Gf1024]) -> Exponent
-    requires { 20 ≤ length words.now }
-    ensures { result.value ≡ bits_at (values words.now) 16 4 }
-{
-    Exponent::new(nibble(words, 16)).unwrap()
-}
-
-fn group_number(words: &[Gf1024]) -> GroupNumber
-    requires { 20 ≤ length words.now }
-    ensures { result.value ≡ bits_at (values words.now) 20 4 }
-{
-    GroupNumber::new(nibble(words, 20)).unwrap()
-}
-
-fn group_count(words: &[Gf1024]) -> GroupCount
-    requires { 20 ≤ length words.now }
-    ensures { result.value ≡ bits_at (values words.now) 28 4 + 1 }
-{
-    GroupCount::new(nibble(words, 28) + 1).unwrap()
-}
-
-fn member_number(words: &[Gf1024]) -> MemberNumber
-    requires { 20 ≤ length words.now }
-    ensures { result.value ≡ bits_at (values words.now) 32 4 }
-{
-    MemberNumber::new(nibble(words, 32)).unwrap()
+    N::new(bits_at(words, from, count) as u16 + more).unwrap()
 }
 
 /// The first `count` bytes are those after the first `from` bits.
@@ -96,14 +56,14 @@ fn fields(words: &[Gf1024]) -> Result<Card, Refusal>
     ensures { meant result ≡ checked_fields (fields_in (values words.now)) }
 {
     let parts = CardParts {
-        identifier: identifier(words),
+        identifier: number(words, 0, 15, 0),
         extendable: bits_at(words, 15, 1) == 1,
-        exponent: exponent(words),
-        group: group_number(words),
-        group_threshold: threshold(words, 24),
-        group_count: group_count(words),
-        member: member_number(words),
-        member_threshold: threshold(words, 36),
+        exponent: number(words, 16, 4, 0),
+        group: number(words, 20, 4, 0),
+        group_threshold: number(words, 24, 4, 1),
+        group_count: number(words, 28, 4, 1),
+        member: number(words, 32, 4, 0),
+        member_threshold: number(words, 36, 4, 1),
         value: value(words),
     };
     parts.checked()

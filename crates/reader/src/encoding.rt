@@ -9,7 +9,7 @@ use crate::card::Card;
 use crate::words::Words;
 use checksum::check_words;
 use field::gf1024::Gf1024;
-use numbers::WordIndex;
+use numbers::{Number, WordIndex};
 
 /// The fields before the value, in forty bits.
 fn header_number(card: &Card) -> u64

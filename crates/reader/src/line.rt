@@ -87,11 +87,13 @@ impl<'a> Tokens<'a> {
             state = match (state, Class::of(*byte)) {
                 (State::Between, Class::Blank) => State::Between,
                 (State::Between, Class::Hash) => State::InRemark { start: i },
-                (State::Between, Class::Letter | Class::Forbidden) => State::InWord { start: i },
-                (State::InWord { start }, Class::Letter | Class::Forbidden) => {
-                    State::InWord { start }
+                (State::Between, Class::Letter) | (State::Between, Class::Forbidden) => {
+                    State::InWord { start: i }
                 }
-                (State::InWord { .. }, Class::Blank | Class::Hash) => {
+                // Two arms: a pattern with `|` that binds `start` tells a proof nothing of it.
+                (State::InWord { start }, Class::Letter) => State::InWord { start },
+                (State::InWord { start }, Class::Forbidden) => State::InWord { start },
+                (State::InWord { .. }, Class::Blank) | (State::InWord { .. }, Class::Hash) => {
                     end = i;
                     break;
                 }
