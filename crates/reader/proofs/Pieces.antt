@@ -87,25 +87,3 @@ module _ (line : List ℕ) (i : ℕ) (lt : i < length line) where
       inside start (part start i line) Letter (sym is ∙ e) ∙ ap (λ w. pieces (in_word start w) (i + 1) (drop (i + 1) line)) (sym (part-more start i line h lt))
   longer start h k e (inr is) =
       inside start (part start i line) Forbidden (sym is ∙ e) ∙ ap (λ w. pieces (in_word start w) (i + 1) (drop (i + 1) line)) (sym (part-more start i line h lt))
-
-  -- a word ends before a blank or a #
-  pub before : (start : ℕ) (k : Class) → k ≡ class_of (get_or line i 0) → (k ≡ Blank) ⊎ (k ≡ Hash)
-      → told line (InWord start) i ≡ word start (part start i line) ∷ pieces_from line i
-  before start k e (inl is) =
-      inside start (part start i line) Blank (sym is ∙ e) ∙ ap (λ ps. word start (part start i line) ∷ ps) (sym (opened Blank (sym is ∙ e)))
-  before start k e (inr is) =
-      inside start (part start i line) Hash (sym is ∙ e) ∙ ap (λ ps. word start (part start i line) ∷ ps) (sym (opened Hash (sym is ∙ e)))
-
--- at the end of the line
-module _ (line : List ℕ) (i : ℕ) (le : length line ≤ i) where
-  pub ended : pieces_from line i ≡ []
-  ended = at_drop_all (pieces between i) line i le
-
-  pub word-ended : (start : ℕ) → told line (InWord start) i ≡ word start (part start i line) ∷ pieces_from line i
-  word-ended start =
-      at_drop_all (pieces (in_word start (part start i line)) i) line i le ∙ ap (λ ps. word start (part start i line) ∷ ps) (sym ended)
-
-  pub remark_ended : (start : ℕ) → drop start line ≡ part start i line
-  remark_ended start =
-      let l : length (drop start line) ≤ i - start = simp length-drop (omega arith) in
-      sym (take_all (i - start) (drop start line) l)

@@ -1,11 +1,11 @@
--- One turn by state and class, and the three ways out.
+-- One turn by state and class.
 use Rattle.std.proofs.Common.{◌≡◌, ℕ, ◌+◌, ◌-◌, ◌<◌, ◌≤◌, List, [], ◌∷◌, length, get_or, sym, refl, ap, ◌∙◌, subst, inl, inr, arith}
 use Rattle.reader.specs.declared.line.State.{State}
 use Rattle.reader.specs.declared.line.State.TheVariants.{Between, InWord, InRemark}
 use Rattle.reader.specs.declared.line.Class.{Class}
 use Rattle.reader.specs.declared.line.Class.TheVariants.{Blank, Hash, Letter, Forbidden}
-use Rattle.reader.specs.Line.{class_of, word, remark, pieces_from}
-use Rattle.reader.proofs.Pieces.{part, told, Began, went, byte-left, bytes-left, blank, hash, letter, longer, before, ended, word-ended, remark_ended}
+use Rattle.reader.specs.Line.{class_of}
+use Rattle.reader.proofs.Pieces.{told, Began, went, byte-left, bytes-left, blank, hash, letter, longer}
 use Rattle.reader.proofs.line.Tokens.next_token.Goals as goal
 use Rattle.reader.proofs.line.Tokens.next_token.Goals.{in-Between-Blank, in-Between-Hash, in-Between-Letter, in-Between-Letter-2, in-InWord-Letter, in-InWord-Forbidden, in-InRemark-default}
 
