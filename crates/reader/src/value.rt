@@ -19,13 +19,12 @@ impl Value {
     pub fn new(bytes: [u8; 64], count: usize) -> Option<Value>
         ensures { MatchOption result (16 ≤ count → count ≤ 64 → count % 2 ≡ 1) (λ v. (length v.bytes ≡ count) × (v.bytes ≡ take count bytes)) }
     {
-        if (16..=64).contains(&count) && count % 2 == 0 {
-            Some(Value {
-                bytes: Bytes::new(bytes, count),
-            })
-        } else {
-            None
+        let bytes = Bytes::new(bytes, count);
+        let kept = bytes.as_slice();
+        if kept.len() < count || count < 16 || count % 2 != 0 {
+            return None;
         }
+        Some(Value { bytes })
     }
 
     pub fn bytes(&self) -> &[u8]
