@@ -1,6 +1,6 @@
 -- The pieces of a line, one byte after the other, as the state machine sees them.
 use Rattle.std.proofs.Common.{◌≡◌, ℕ, ◌+◌, ◌-◌, ◌<◌, ◌≤◌, ◌⊎◌, List, [], ◌∷◌, ◌++◌, length, get_or, take, drop, sym, ap, ◌∙◌, subst, ap₂, inl, inr, arith, length-drop}
-use Rattle.std.proofs.lemmas.List.{at_drop_more, at_drop_all, take_more, get_or-drop, get_or-take, take_all, drop_more}
+use Rattle.std.proofs.lemmas.List.{at_drop_more, take_more, get_or-drop, get_or-take, take_all, drop_more}
 use Rattle.reader.specs.declared.line.State.{State}
 use Rattle.reader.specs.declared.line.State.TheVariants.{Between, InWord, InRemark}
 use Rattle.reader.specs.declared.line.Class.{Class}

@@ -18,8 +18,8 @@ fn header_number(card: &Card) -> u64
 {
     let parts = &card.parts;
     let flag = u64::from(parts.extendable);
-    let deal =
-        (u64::from(parts.identifier.value) * 2 + flag) * 16 + u64::from(parts.exponent.value);
+    let deal = (u64::from(parts.identifier.value) * 2 + flag) * 16
+        + u64::from(parts.exponent.value);
     let group = (deal * 16 + u64::from(parts.group.value)) * 16
         + (u64::from(parts.group_threshold.value) - 1);
     let member = (group * 16 + (u64::from(parts.group_count.value) - 1)) * 16
@@ -91,7 +91,8 @@ fn data_words(card: &Card) -> Words
 
 /// The card's words.
 pub(crate) fn encode(card: &Card) -> Words
-    ensures { Holds result (words_of (fields_of card.now)) }
+    ensures holds { Holds result (words_of (fields_of card.now)) }
+    ensures few { result.count ≤ 59 }
 {
     let mut words = data_words(card);
     let check = check_words(card.parts.extendable, &words.elements[..words.count]);

@@ -1,5 +1,5 @@
 -- A count that fits leaves no word out.
-use Rattle.std.proofs.Common.{rules, ◌≡◌, ◌≤◌, true, leb, length, take, sym, ap, ◌∙◌, arith}
+use Rattle.std.proofs.Common.{rules, ◌≡◌, ◌≤◌, true, leb, length, take, sym, ap, ◌∙◌}
 use Rattle.std.proofs.lemmas.List.{take_all}
 use Rattle.std.proofs.lemmas.Bool.{and_parts, leb-true}
 use Rattle.refusal.specs.declared.Refusal.TheVariants.{WordCount}

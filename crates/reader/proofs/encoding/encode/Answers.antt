@@ -1,5 +1,5 @@
 -- The check words after the others.
-use Rattle.std.proofs.Common.{◌≡◌, ◌+◌, ◌<◌, ◌≤◌, List, [], ◌∷◌, ◌++◌, length, get_or, take, sym, ap, ◌∙◌, subst, append_assoc, append-nil, arith}
+use Rattle.std.proofs.Common.{◌≡◌, ◌+◌, ◌≤◌, List, [], ◌∷◌, ◌++◌, length, get_or, take, sym, ap, ◌∙◌, subst, append_assoc, append-nil, arith}
 use Rattle.std.proofs.lemmas.List.{take_all, take_more, length-map, map_push}
 use Rattle.field.specs.declared.gf1024.Gf1024.{Gf1024}
 use Rattle.checksum.specs.Values.{values}
@@ -46,8 +46,8 @@ loop-element-preserved c =
       omega (arith, c.push.ensures.counts, c.loop-element.invariant.1),
     )
 
-pub returns : goal.returns
-returns c =
+pub returns-clause-holds : goal.returns-clause-holds
+returns-clause-holds c =
     let f = fields_of c.args.card.now in
     let D = data_words f in
     let held = c.data_words-words.ensures in

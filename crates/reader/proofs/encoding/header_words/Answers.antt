@@ -1,5 +1,5 @@
 -- One word more, and all four.
-use Rattle.std.proofs.Common.{◌≡◌, ◌-◌, [], length, take, ap, ◌∙◌, subst, arith}
+use Rattle.std.proofs.Common.{◌-◌, [], take, ap, ◌∙◌, subst, arith}
 use Rattle.std.proofs.lemmas.List.{take_all}
 use Rattle.reader.specs.Words.{Holds}
 use Rattle.reader.specs.Writing.{words_for}
