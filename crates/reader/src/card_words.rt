@@ -24,7 +24,7 @@ pub(crate) struct CardWords<'a> {
 fn count_fits(words: usize) -> bool
     ensures { result ≡ count_fits words }
 {
-    20 <= words && words <= 59 && 10 * (words - 7) % 16 <= 8
+    (20..=59).contains(&words) && 10 * (words - 7) % 16 <= 8
 }
 
 impl<'a> CardWords<'a> {
@@ -69,6 +69,7 @@ impl<'a> CardWords<'a> {
         requires inside { from + 8 * count + 30 ≤ 10 * length self.now.words.now }
         ensures { take count result ≡ bytes_at (values self.now.words.now) from count }
     {
+        // By its index: with `array::from_fn` the proof did not close, for what each call of the closure gave.
         let mut bytes = [0; 64];
         for k in 0..count {
             bytes[k] = bits_at(self.words, from + 8 * k, 8) as u8;
