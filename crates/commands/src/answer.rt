@@ -37,9 +37,7 @@ fn group_fields(heap: Global, card: &Card) -> Result<String, AllocError>
 {
     format!(in heap;
         "group={} group_threshold={} group_count={}",
-        card.group.value,
-        card.group_threshold.value,
-        card.group_count.value,
+        card.group.value, card.group_threshold.value, card.group_count.value,
     )
 }
 
@@ -48,8 +46,7 @@ fn member_fields(heap: Global, card: &Card) -> Result<String, AllocError>
 {
     format!(in heap;
         "member={} member_threshold={}",
-        card.member.value,
-        card.member_threshold.value,
+        card.member.value, card.member_threshold.value,
     )
 }
 

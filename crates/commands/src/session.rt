@@ -136,11 +136,7 @@ fn card_answer<F: FnOnce(&Card) -> Result<String, AllocError>>(
     }
 }
 
-fn read_answer<L: Lexicon>(
-    heap: Global,
-    lexicon: &L,
-    line: &[u8],
-) -> Result<Answer, AllocError>
+fn read_answer<L: Lexicon>(heap: Global, lexicon: &L, line: &[u8]) -> Result<Answer, AllocError>
     ensures { IfOk result (ReadAnswer (reading (L.words lexicon.now) line.now)) }
 {
     card_answer(heap, read_card(lexicon, line), |card| card_line(heap, card))

@@ -1,6 +1,7 @@
 //! Stands in until the trait comes.
 ghost use Rattle.std.specs.Prelude.{◌≡◌, ℕ, ◌^◌, ◌<◌, ◌≤◌, MatchOption};
 ghost use Rattle.std.proofs.Common.{rules};
+
 use numbers::{Exponent, GroupCount, GroupNumber, Identifier, MemberNumber, Threshold};
 
 pub trait Number: Copy {

@@ -1,16 +1,22 @@
 //! Bytes as a command gives them: hexadecimal digits, or `-` for none; `*` and a count after them repeat them.
-ghost use Rattle.std.specs.Prelude.{◌≡◌, ◌==◌, [], None, Some, IfOk, IfSome, codes, position, vec_len, ◌*◌, ℕ};
+ghost use Rattle.std.specs.Prelude.{◌≡◌, ◌≢◌, ◌==◌, [], None, Some, IfOk, codes, position};
 ghost use Rattle.std.specs.Option.{option_map};
-ghost use Rattle.digests.specs.Data.{bytes_in};
+ghost use Rattle.digests.specs.Data.{has_capital, bytes_in};
 
 use hex::FromHexError;
 use std::alloc::{AllocError, Global};
+
+fn has_capital(digits: &[u8]) -> bool
+    ensures { result ≡ has_capital digits.now }
+{
+    digits.iter().any(|b| b'A' <= *b && *b <= b'F')
+}
 
 /// The bytes that digits write. No letter is a capital here, though the library would take it.
 fn unhex(heap: Global, digits: &[u8]) -> Result<Option<Vec<u8>>, AllocError>
     ensures { IfOk result (λ bytes. option_map (λ v. v.items) bytes ≡ bytes_in digits.now) }
 {
-    if digits.iter().any(|b| b'A' <= *b && *b <= b'F') {
+    if has_capital(digits) {
         return Ok(None);
     }
     match hex::decode(heap, digits) {
@@ -23,6 +29,7 @@ fn unhex(heap: Global, digits: &[u8]) -> Result<Option<Vec<u8>>, AllocError>
 /// The bytes that a word of a command stands for.
 pub fn decode(heap: Global, word: &str) -> Result<Option<Vec<u8>>, AllocError>
     ensures none { word.now ≡ codes "-" → IfOk result (λ bytes. option_map (λ v. v.items) bytes ≡ Some []) }
+    ensures digits { word.now ≢ codes "-" → position (λ b. b == 42) word.now ≡ None → IfOk result (λ bytes. option_map (λ v. v.items) bytes ≡ bytes_in word.now) }
 {
     if word == "-" {
         return Ok(Some(Vec::new(heap)));
