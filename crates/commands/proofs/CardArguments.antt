@@ -1,8 +1,10 @@
 -- The fields of a card, one argument after the other.
-use Rattle.std.proofs.Common.{◌≡◌, ℕ, zero, suc, Bool, true, false, cond, eqb, List, [], ◌∷◌, length, get_or, Some, None, sym, refl, ap, ◌∙◌}
-use Rattle.std.proofs.lemmas.Bool.{and_left, and_right, and_from, cond-true, cond-false, eq-eqb, true≢false}
+use Rattle.std.proofs.Common.{◌≡◌, ℕ, zero, suc, Bool, true, false, cond, eqb, List, [], ◌∷◌, length, get_or, Some, None, Option, Bor, is_some, sym, refl, ap, ◌∙◌, ◌<◌, ◌+◌, arith}
+use Rattle.std.proofs.lemmas.Bool.{and_left, and_right, and_from, cond-true, cond-false, eq-eqb, ne_eqb, true≢false}
+use Rattle.std.proofs.lemmas.List.Splits.{length-slice_split}
+use Rattle.std.specs.Option.{option_map}
 use Rattle.reader.specs.Card.{Fields}
-use Rattle.commands.specs.Arguments.{argument_at, number_in, is_number, number_from, is_value, value_from, card_tests, all_pass, card_fields, fields_from}
+use Rattle.commands.specs.Arguments.{separated, texts_in, argument_at, number_in, is_number, number_from, is_value, value_from, card_tests, all_pass, card_fields, fields_from}
 use Rattle.commands.proofs.DecimalNumbers.{some-passed}
 
 one-fails : (ts : List Bool) (k : ℕ) → get_or ts k true ≡ false → all_pass ts ≡ false
@@ -11,8 +13,11 @@ one-fails (t ∷ ts) zero e = and_left t (all_pass ts) e
 one-fails (t ∷ ts) (suc k) e = and_right t (all_pass ts) (one-fails ts k e)
 
 module _ (texts : List (List ℕ)) where
-  pub misfit : (k : ℕ) → get_or (card_tests texts) k true ≡ false → None ≡ fields_from texts
+  misfit : (k : ℕ) → get_or (card_tests texts) k true ≡ false → None ≡ fields_from texts
   misfit k e = sym (cond-false (all_pass (card_tests texts)) (Some (card_fields texts)) None (one-fails (card_tests texts) k e))
+
+  pub too_many : 9 < length texts → None ≡ fields_from texts
+  too_many h = misfit 0 (ne_eqb (length texts) 9 (λ e. omega arith))
 
   pub fits : (f : Fields) → length texts ≡ 9
       → Some f.identifier ≡ number_from 0 32767 (argument_at texts 0)
@@ -51,3 +56,19 @@ module _ (texts : List (List ℕ)) where
         value = p8.1 i;
       } in
       ap Some same ∙ sym (cond-true (all_pass (card_tests texts)) (Some (card_fields texts)) None all)
+
+-- the texts after the last one that was taken
+module _ (o : Option (Bor (List ℕ))) where
+  pub no_texts : is_some o ≡ false → texts_in (option_map (λ x. x.now) o) ≡ []
+  no_texts e = none o e
+    where
+      none : (q : Option (Bor (List ℕ))) → is_some q ≡ false → texts_in (option_map (λ x. x.now) q) ≡ []
+      none None e = refl
+      none (Some x) e = absurd (true≢false e)
+
+  pub some_texts : is_some o ≡ true → 0 < length (texts_in (option_map (λ x. x.now) o))
+  some_texts e = more o e
+    where
+      more : (q : Option (Bor (List ℕ))) → is_some q ≡ true → 0 < length (texts_in (option_map (λ x. x.now) q))
+      more None e = absurd (true≢false (sym e))
+      more (Some x) e = omega (arith, length-slice_split (λ b. eqb b 32) x.now)

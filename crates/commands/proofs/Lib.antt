@@ -3,5 +3,4 @@ mod CardArguments
 mod CardTexts
 mod DecimalNumbers
 mod HexValues
-mod Lines
 mod SpaceSeparated

@@ -1,18 +1,18 @@
 -- The arguments of a command: texts with one space between, numbers in decimal digits and bytes in hexadecimal ones.
 use Rattle.std.specs.Prelude.{ℕ, ◌+◌, ◌*◌, ◌%◌, Bool, true, cond, ◌&&◌, List, [], ◌∷◌, length, Some, None, Option, ◌==◌, nat_le, nat_lt, slice_index_or}
+use Rattle.std.specs.List.{slice_split}
 use Rattle.std.specs.Str.Parse.{digits_value as numeral_value}
 use Rattle.std.specs.Char.{digit_value}
 use Rattle.reader.specs.Card.{Fields}
 
--- the byte before the first of the texts
-abbrev pub with_first : ℕ → List (List ℕ) → List (List ℕ)
-with_first b [] = []
-with_first b (text ∷ more) = (b ∷ text) ∷ more
-
 -- the texts between spaces: one more than there are spaces
 abbrev pub separated : List ℕ → List (List ℕ)
-separated [] = [] ∷ []
-separated (b ∷ bs) = cond (b == 32) ([] ∷ separated bs) (with_first b (separated bs))
+separated line = slice_split (λ b. b == 32) line
+
+-- the same of what follows a space, if there is one
+abbrev pub texts_in : Option (List ℕ) → List (List ℕ)
+texts_in None = []
+texts_in (Some rest) = separated rest
 
 -- an argument that is missing has no bytes
 abbrev pub argument_at : List (List ℕ) → ℕ → List ℕ

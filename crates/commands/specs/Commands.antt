@@ -1,5 +1,6 @@
 -- What a line of the input asks for.
-use Rattle.std.specs.Prelude.{ℕ, Bool, true, false, cond, ◌&&◌, ◌||◌, List, [], ◌∷◌, Some, None, codes, Option, ◌==◌}
+use Rattle.std.specs.Prelude.{ℕ, Bool, false, cond, ◌||◌, List, [], ◌∷◌, Some, None, codes, Option, ◌==◌}
+use Rattle.std.specs.List.{list_all}
 use Rattle.std.specs.Str.{bytes_eq}
 use Rattle.commands.specs.Lines.{name_of, rest_of}
 use Rattle.commands.specs.declared.command.Verb.{Verb}
@@ -25,8 +26,7 @@ meaning command.Unknown = unknown
 
 -- nothing but spaces and tabs
 abbrev pub is_blank : List ℕ → Bool
-is_blank [] = true
-is_blank (b ∷ bs) = (b == 32 || b == 9) && is_blank bs
+is_blank line = list_all (λ b. b == 32 || b == 9) line
 
 -- the first byte is #
 abbrev pub is_comment : List ℕ → Bool

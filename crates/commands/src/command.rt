@@ -1,9 +1,8 @@
 //! The commands, one to a line.
 ghost use Rattle.std.specs.Prelude.{◌≡◌};
-ghost use Rattle.std.specs.Option.{option_map};
-ghost use Rattle.commands.specs.Commands.{meaning, is_blank, is_comment, verb_of, read_request, write_request, request_of};
+ghost use Rattle.commands.specs.Commands.{meaning, is_blank, is_comment, verb_of, request_of};
 
-use crate::text::{cut, spells};
+use crate::text::cut;
 
 /// The name of a command.
 #[derive(Clone, Copy)]
@@ -27,54 +26,27 @@ pub enum Command<'a> {
     Unknown,
 }
 
+/// Nothing but spaces and tabs.
 fn is_blank(line: &[u8]) -> bool
     ensures { result ≡ is_blank line.now }
 {
-    for b in line {
-        if *b != b' ' && *b != b'\t' {
-            return false;
-        }
-    }
-    true
+    line.iter().all(|b| *b == b' ' || *b == b'\t')
 }
 
 fn is_comment(line: &[u8]) -> bool
     ensures { result ≡ is_comment line.now }
 {
-    match line {
-        [first, ..] => *first == b'#',
-        [] => false,
-    }
+    line.starts_with(b"#")
 }
 
 /// The command of this name, if there is one.
 fn verb_named(name: &[u8]) -> Option<Verb>
     ensures { result ≡ verb_of name.now }
 {
-    if spells(name, "read") {
-        return Some(Verb::Read);
-    }
-    if spells(name, "write") {
-        return Some(Verb::Write);
-    }
-    None
-}
-
-fn read_command(rest: Option<&[u8]>) -> Command<'_>
-    ensures { meaning result ≡ read_request (option_map (λ x. x.now) rest.entry) }
-{
-    match rest {
-        Some(line) => Command::Read(line),
-        None => Command::Malformed(Verb::Read),
-    }
-}
-
-fn write_command(rest: Option<&[u8]>) -> Command<'_>
-    ensures { meaning result ≡ write_request (option_map (λ x. x.now) rest.entry) }
-{
-    match rest {
-        Some(arguments) => Command::Write(arguments),
-        None => Command::Malformed(Verb::Write),
+    match name {
+        b"read" => Some(Verb::Read),
+        b"write" => Some(Verb::Write),
+        _ => None,
     }
 }
 
@@ -85,10 +57,13 @@ pub fn parse(line: &[u8]) -> Command<'_>
     if is_blank(line) || is_comment(line) {
         return Command::Nothing;
     }
-    let parts = cut(line);
-    match verb_named(parts.name) {
-        Some(Verb::Read) => read_command(parts.rest),
-        Some(Verb::Write) => write_command(parts.rest),
-        None => Command::Unknown,
+    let (name, rest) = cut(line);
+    let Some(verb) = verb_named(name) else {
+        return Command::Unknown;
+    };
+    match (verb, rest) {
+        (_, None) => Command::Malformed(verb),
+        (Verb::Read, Some(card)) => Command::Read(card),
+        (Verb::Write, Some(arguments)) => Command::Write(arguments),
     }
 }

@@ -7,4 +7,5 @@ pub mod command;
 pub mod serving;
 pub mod session;
 pub mod settings;
+mod shim;
 pub mod text;

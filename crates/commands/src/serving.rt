@@ -14,6 +14,7 @@ fn serve<L: Lexicon>(rt: &HostRuntime, lexicon: &L) -> io::Result<()> {
     let heap = rt.alloc();
     let mut input = BufReader::new(heap, rt.stdin())?;
     let mut counts = Counts::new();
+    // One buffer for all lines: `split` would leave a freed copy of each card's words.
     let mut line = Vec::new(heap);
     for _ in 0..u64::MAX {
         line.clear();
@@ -52,12 +53,9 @@ pub fn run(rt: &HostRuntime) -> io::Result<()> {
         return usage(rt);
     };
     let _program = args.next();
-    let (Some(lexicon), Some(suite)) = (args.next(), args.next()) else {
+    let (Some(lexicon), Some(suite), None) = (args.next(), args.next(), args.next()) else {
         return usage(rt);
     };
-    if args.next().is_some() {
-        return usage(rt);
-    }
     let Some(_suite) = suite_named(suite.as_str()) else {
         return usage(rt);
     };

@@ -1,9 +1,11 @@
 //! The answers to commands, and how many there were.
-ghost use Rattle.std.specs.Prelude.{◌≡◌, IfOk, string_bytes};
-ghost use Rattle.reader.specs.Reading.{meant};
+ghost use Rattle.std.specs.Prelude.{◌≡◌, Ok, IfOk, MatchResult, string_bytes};
+ghost use Rattle.std.specs.Fn.{FnOnceReturnsAt};
+ghost use Rattle.reader.specs.Reading.{reading};
 ghost use Rattle.commands.specs.Arguments.{separated, fields_from};
 ghost use Rattle.commands.specs.Commands.{meaning, request_of};
-ghost use Rattle.commands.specs.Session.{RefusedAnswer, ReadAnswer, WrittenAnswer, WriteAnswer, ErrorAnswer, Responds, noted, done_text, done_line};
+ghost use Rattle.commands.specs.declared.session.Outcome.TheVariants.{Done};
+ghost use Rattle.commands.specs.Session.{RefusedAnswer, ReadAnswer, WriteAnswer, ErrorAnswer, Responds, noted, done_text, done_line};
 
 use crate::answer::{card_line, refused_line, text_line};
 use crate::arguments::card_parts;
@@ -110,38 +112,34 @@ fn refused_answer(heap: Global, refusal: Refusal) -> Result<Answer, AllocError>
     })
 }
 
-fn read_answer(heap: Global, res: Result<Card, Refusal>) -> Result<Answer, AllocError>
-    ensures { IfOk result (ReadAnswer (meant res)) }
-{
-    match res {
-        Ok(card) => Ok(Answer {
-            outcome: Outcome::Done,
-            text: card_line(heap, &card)?,
-        }),
-        Err(refusal) => refused_answer(heap, refusal),
-    }
-}
-
 fn malformed_answer(heap: Global, verb: Verb) -> Result<Answer, AllocError>
     ensures { IfOk result ErrorAnswer }
 {
     error_answer(heap, usage(verb))
 }
 
-fn written_answer<L: Lexicon>(
+/// What `show` makes of the card, or the refusal.
+fn card_answer<F: FnOnce(&Card) -> Result<String, AllocError>>(
     heap: Global,
-    lexicon: &L,
     res: Result<Card, Refusal>,
+    show: F,
 ) -> Result<Answer, AllocError>
-    ensures { IfOk result (WrittenAnswer (L.words lexicon.now) (meant res)) }
+    requires { F.IsAlwaysCallable show }
+    ensures { IfOk result (λ a. MatchResult res (λ card. (a.outcome ≡ Done) × FnOnceReturnsAt F.FnOnce show card (Ok a.text)) (λ refusal. RefusedAnswer refusal a)) }
 {
     match res {
         Ok(card) => Ok(Answer {
             outcome: Outcome::Done,
-            text: text_line(heap, lexicon, &card)?,
+            text: show(&card)?,
         }),
         Err(refusal) => refused_answer(heap, refusal),
     }
+}
+
+fn read_answer<L: Lexicon>(heap: Global, lexicon: &L, line: &[u8]) -> Result<Answer, AllocError>
+    ensures { IfOk result (ReadAnswer (reading (L.words lexicon.now) line.now)) }
+{
+    card_answer(heap, read_card(lexicon, line), |card| card_line(heap, card))
 }
 
 fn write_answer<L: Lexicon>(
@@ -151,10 +149,10 @@ fn write_answer<L: Lexicon>(
 ) -> Result<Answer, AllocError>
     ensures { IfOk result (WriteAnswer (L.words lexicon.now) (fields_from (separated arguments.now))) }
 {
-    match card_parts(arguments) {
-        Some(parts) => written_answer(heap, lexicon, parts.checked()),
-        None => malformed_answer(heap, Verb::Write),
-    }
+    let Some(parts) = card_parts(arguments) else {
+        return malformed_answer(heap, Verb::Write);
+    };
+    card_answer(heap, parts.checked(), |card| text_line(heap, lexicon, card))
 }
 
 /// Carries out a command.
@@ -167,7 +165,7 @@ fn respond<L: Lexicon>(
 {
     let answer = match command {
         Command::Nothing => return Ok(None),
-        Command::Read(line) => read_answer(heap, read_card(lexicon, line))?,
+        Command::Read(line) => read_answer(heap, lexicon, line)?,
         Command::Write(arguments) => write_answer(heap, lexicon, arguments)?,
         Command::Malformed(verb) => malformed_answer(heap, verb)?,
         Command::Unknown => error_answer(heap, "there is no such command")?,

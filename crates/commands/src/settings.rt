@@ -2,8 +2,6 @@
 ghost use Rattle.std.specs.Prelude.{◌≡◌};
 ghost use Rattle.commands.specs.Settings.{chosen, suite_of, lexicon_of};
 
-use crate::text::spells;
-
 /// The words that cards are written in.
 #[derive(Clone, Copy)]
 pub enum LexiconChoice<'a> {
@@ -26,10 +24,9 @@ pub enum Suite {
 pub fn lexicon_named(name: &str) -> LexiconChoice<'_>
     ensures { chosen result ≡ lexicon_of name.now }
 {
-    if spells(name.as_bytes(), "numbers") {
-        LexiconChoice::Numbers
-    } else {
-        LexiconChoice::WordFile(name)
+    match name {
+        "numbers" => LexiconChoice::Numbers,
+        path => LexiconChoice::WordFile(path),
     }
 }
 
@@ -37,11 +34,9 @@ pub fn lexicon_named(name: &str) -> LexiconChoice<'_>
 pub fn suite_named(name: &str) -> Option<Suite>
     ensures { result ≡ suite_of name.now }
 {
-    if spells(name.as_bytes(), "shop") {
-        return Some(Suite::Shop);
+    match name {
+        "shop" => Some(Suite::Shop),
+        "drill" => Some(Suite::Drill),
+        _ => None,
     }
-    if spells(name.as_bytes(), "drill") {
-        return Some(Suite::Drill);
-    }
-    None
 }

@@ -1,2 +1,3 @@
 -- The definitions of the program `digests`.
+pub mod Data
 pub mod Replies

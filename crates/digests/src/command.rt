@@ -1,6 +1,6 @@
 //! The commands, one to a line.
 use crate::data::decode;
-use crate::reply::{hex, reply};
+use crate::reply::reply;
 use digest::{DrillDigest, HmacSha256, KeyedDigest, sha256_of};
 use std::alloc::{AllocError, Global};
 
@@ -14,19 +14,16 @@ struct Words<'a> {
     second: &'a str,
 }
 
-fn cut(line: &str) -> Words<'_> {
-    let mut words = line.split_whitespace();
-    let name = words.next().unwrap_or("-");
-    let number = words.next().unwrap_or("-");
-    let key = words.next().unwrap_or("-");
-    let first = words.next().unwrap_or("-");
-    let second = words.next().unwrap_or("-");
-    Words {
-        name,
-        number,
-        key,
-        first,
-        second,
+impl<'a> From<&'a str> for Words<'a> {
+    fn from(line: &'a str) -> Words<'a> {
+        let mut words = line.split_whitespace();
+        Words {
+            name: words.next().unwrap_or("-"),
+            number: words.next().unwrap_or("-"),
+            key: words.next().unwrap_or("-"),
+            first: words.next().unwrap_or("-"),
+            second: words.next().unwrap_or("-"),
+        }
     }
 }
 
@@ -37,7 +34,7 @@ fn malformed(heap: Global) -> Result<String, AllocError> {
 /// `sha256 MESSAGE`
 fn answer_hash(heap: Global, words: Words<'_>) -> Result<String, AllocError> {
     match decode(heap, words.number)? {
-        Some(message) => hex(heap, &sha256_of(message.as_slice())),
+        Some(message) => hex::encode(heap, sha256_of(message.as_slice())),
         None => malformed(heap),
     }
 }
@@ -82,13 +79,13 @@ fn answer_chain<D: KeyedDigest>(
         total.as_mut_slice(),
     );
     let last = reply(heap, answer, link.as_slice())?;
-    let sum = hex(heap, total.as_slice())?;
+    let sum = hex::encode(heap, total.as_slice())?;
     format!(in heap; "{last} {sum}")
 }
 
 /// The answer to a line.
 pub fn answer(heap: Global, line: &str) -> Result<String, AllocError> {
-    let words = cut(line);
+    let words = Words::from(line);
     match words.name {
         "sha256" => answer_hash(heap, words),
         "hmac" => answer_digest(heap, &HmacSha256, words),

@@ -1,38 +1,36 @@
 //! Bytes as a command gives them: hexadecimal digits, or `-` for none; `*` and a count after them repeat them.
-ghost use Rattle.std.specs.Prelude.{◌≡◌, ◌<◌, IfSome};
-ghost use Rattle.digests.specs.Replies.{hex_digit};
+ghost use Rattle.std.specs.Prelude.{◌≡◌, ◌≢◌, ◌==◌, [], None, Some, IfOk, codes, position};
+ghost use Rattle.std.specs.Option.{option_map};
+ghost use Rattle.digests.specs.Data.{has_capital, bytes_in};
 
+use hex::FromHexError;
 use std::alloc::{AllocError, Global};
 
-fn digit(c: u8) -> Option<u8>
-    ensures { IfSome result (λ n. (n < 16) × (hex_digit n ≡ c)) }
+fn has_capital(digits: &[u8]) -> bool
+    ensures { result ≡ has_capital digits.now }
 {
-    match c {
-        b'0'..=b'9' => Some(c - b'0'),
-        b'a'..=b'f' => Some(c - b'a' + 10),
-        _ => None,
-    }
+    digits.iter().any(|b| b'A' <= *b && *b <= b'F')
 }
 
-fn unhex(heap: Global, digits: &[u8]) -> Result<Option<Vec<u8>>, AllocError> {
-    if digits.len() % 2 != 0 {
+/// The bytes that digits write. No letter is a capital here, though the library would take it.
+fn unhex(heap: Global, digits: &[u8]) -> Result<Option<Vec<u8>>, AllocError>
+    ensures { IfOk result (λ bytes. option_map (λ v. v.items) bytes ≡ bytes_in digits.now) }
+{
+    if has_capital(digits) {
         return Ok(None);
     }
-    let mut bytes = Vec::new(heap);
-    for i in 0..digits.len() / 2 {
-        let Some(high) = digit(digits[2 * i]) else {
-            return Ok(None);
-        };
-        let Some(low) = digit(digits[2 * i + 1]) else {
-            return Ok(None);
-        };
-        bytes.push(16 * high + low)?;
+    match hex::decode(heap, digits) {
+        Ok(bytes) => Ok(Some(bytes)),
+        Err(FromHexError::OutOfMemory) => Err(AllocError),
+        Err(_) => Ok(None),
     }
-    Ok(Some(bytes))
 }
 
 /// The bytes that a word of a command stands for.
-pub fn decode(heap: Global, word: &str) -> Result<Option<Vec<u8>>, AllocError> {
+pub fn decode(heap: Global, word: &str) -> Result<Option<Vec<u8>>, AllocError>
+    ensures none { word.now ≡ codes "-" → IfOk result (λ bytes. option_map (λ v. v.items) bytes ≡ Some []) }
+    ensures digits { word.now ≢ codes "-" → position (λ b. b == 42) word.now ≡ None → IfOk result (λ bytes. option_map (λ v. v.items) bytes ≡ bytes_in word.now) }
+{
     if word == "-" {
         return Ok(Some(Vec::new(heap)));
     }
@@ -42,9 +40,5 @@ pub fn decode(heap: Global, word: &str) -> Result<Option<Vec<u8>>, AllocError> {
     let (Some(bytes), Ok(count)) = (unhex(heap, digits.as_bytes())?, count.parse::<u32>()) else {
         return Ok(None);
     };
-    let mut all = Vec::new(heap);
-    for _ in 0..count {
-        all.extend_from_slice(bytes.as_slice())?;
-    }
-    Ok(Some(all))
+    Ok(Some(bytes.as_slice().repeat(heap, count as usize)?))
 }

@@ -2,7 +2,6 @@
 ghost use Rattle.std.specs.Prelude.{◌≡◌, ℕ, ◌+◌, ◌*◌, ◌≤◌, List, [], ◌∷◌, ◌++◌, length, take, drop, sum_by, Ok, Err, slice_index_or};
 ghost use Rattle.reader.specs.Card.{fields_of};
 ghost use Rattle.checksum.specs.Values.{values};
-ghost use Rattle.lexicon.specs.Lexicon.{spelling};
 ghost use Rattle.reader.specs.Reading.{reading as reading_of};
 ghost use Rattle.reader.specs.Spelling.{ReadAs, Notices};
 ghost use Rattle.reader.specs.Writing.{Plain, spell, text_of, count_or_refusal, space_after};
@@ -27,8 +26,8 @@ fn append_after_space(space: &mut [u8], at: usize, part: &[u8]) -> usize
 
 /// The word that an element stands for.
 fn word_of<L: Lexicon>(lexicon: &L, element: Gf1024) -> Word
-    ensures spells { spelling result ≡ slice_index_or (L.words lexicon.now) element.value [] }
-    ensures most { length (spelling result) ≤ 8 }
+    ensures spells { result ≡ slice_index_or (L.words lexicon.now) element.value [] }
+    ensures most { length (result) ≤ 8 }
 {
     lexicon.word(index_of(element))
 }

@@ -1,14 +1,9 @@
--- The parts of a line before and after its first space.
-use Rattle.std.proofs.Common.{arith, rules}
-use Rattle.std.proofs.lemmas.List.{take_all}
-use Rattle.std.proofs.lemmas.Slice.{between_to_end}
-use Rattle.std.proofs.lemmas.Bool.Decides.{nat_tests}
+-- The texts of a line, its first one apart.
+use Rattle.commands.proofs.SpaceSeparated.{texts-some, texts-none}
 use Rattle.commands.proofs.text.cut.Goals as goal
 
-pub returns-then-end-line : goal.returns-then-end-line
-returns-then-end-line c =
-    record { name = search rules; rest = search (rules, nat_tests, between_to_end) }
+pub returns-in-Some-clause-texts : goal.returns-in-Some-clause-texts
+returns-in-Some-clause-texts c = texts-some c.args.line.now c.in-Some.end c.in-Some.ensures
 
-pub returns-else-end-line : goal.returns-else-end-line
-returns-else-end-line c =
-    record { name = search (rules, take_all); rest = grind (arith, nat_tests) }
+pub returns-in-None-clause-texts : goal.returns-in-None-clause-texts
+returns-in-None-clause-texts c = texts-none c.args.line.now c.in-None.ensures

@@ -1,0 +1,8 @@
+-- .
+use Rattle.std.proofs.Common.{append_assoc, rules}
+use Rattle.std.proofs.lemmas.Result.{IfOk-weaker}
+use Rattle.commands.proofs.answer.refused_line.Goals as goal
+
+pub returns : goal.returns
+returns c =
+    IfOk-weaker c.format.result _ _ (λ s h. record { sentence = c.sentence.result.now; plain = c.sentence.ensures; whole = search (rules, append_assoc) }) c.format.ensures.ok

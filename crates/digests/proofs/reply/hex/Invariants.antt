@@ -1,7 +1,0 @@
--- The text has the digits of the bytes so far.
-use Rattle.std.proofs.Common.{◌≡◌, ◌++◌, drop, string_bytes}
-use Rattle.digests.specs.Replies.{hex_of}
-use Rattle.digests.proofs.reply.hex.Given as goal
-
-abbrev pub invariant-loop-b : goal.invariant-loop-b
-invariant-loop-b l = string_bytes l.text ++ hex_of (drop l.b-index l.bytes) ≡ hex_of l.bytes

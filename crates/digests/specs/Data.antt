@@ -1,0 +1,13 @@
+-- Bytes as a command gives them.
+use Rattle.std.specs.Prelude.{ℕ, Bool, ◌&&◌, cond, List, None, Option, nat_le}
+use Rattle.std.specs.List.{list_any}
+use Rattle.std.specs.Result.{result_ok}
+use Rattle.hex.specs.Hex.{decode_of}
+
+-- one of the letters from A to F
+abbrev pub has_capital : List ℕ → Bool
+has_capital digits = list_any (λ b. nat_le 65 b && nat_le b 70) digits
+
+-- the bytes that hexadecimal digits write, none of them a capital letter
+abbrev pub bytes_in : List ℕ → Option (List ℕ)
+bytes_in digits = cond (has_capital digits) None (result_ok (decode_of digits))
