@@ -14,7 +14,7 @@ loop-element-init g c =
     let some : length vs ≡ suc (length c.in-Some.others.now) = length-map c.args.words.now (λ a. a.value) ∙ ap length split in
     let text = spell lexicon (take 1 vs) in
     let word : c.bytes.result.now ≡ text =
-    c.bytes.ensures ∙ c.word_of.ensures.spells ∙ ap (λ l. get_or lexicon (get_or (values l) 0 0) []) (sym split) ∙ sym (spell_one lexicon vs (omega arith)) in
+    c.bytes.ensures.bytes ∙ c.word_of.ensures.spells ∙ ap (λ l. get_or lexicon (get_or (values l) 0 0) []) (sym split) ∙ sym (spell_one lexicon vs (omega arith)) in
     let room = front_length lexicon vs 1 (omega arith) (omega arith) in
     let first = first-written c.append.result c.unwrap-at.result c.bytes.result.now text c.args.space.now c.append.new.space c.unwrap-at.ensures c.append.ensures.end c.append.ensures.holds word (omega (arith, c.requires)) in
     (first.0, written-first text c.args.space.now c.append.new.space c.unwrap-at.result first.1 first.0)
@@ -26,7 +26,7 @@ append_after_space-at-requires g c =
     let split : c.args.words.now ≡ c.in-Some.first.now ∷ c.in-Some.others.now = search rules in
     let k = c.loop-element.element-index + 1 in
     let here = element-after c.args.words.now c.in-Some.others.now c.in-Some.first.now c.element-item.result c.loop-element.element-index split c.loop-element-test.true c.element-item.is in
-    let word = ap length (c.bytes-in-loop-element.ensures ∙ c.word_of-in-loop-element.ensures.spells ∙ ap (λ v. get_or lexicon v []) here.1) in
+    let word = ap length (c.bytes-in-loop-element.ensures.bytes ∙ c.word_of-in-loop-element.ensures.spells ∙ ap (λ v. get_or lexicon v []) here.1) in
     let more = more-length lexicon vs k (omega arith) here.0 in
     let fits = front_length lexicon vs (k + 1) (omega arith) (omega (arith, here.0)) in
     omega (arith, c.requires, c.loop-element.invariant.0, c.loop-element.auto.space, c.append.auto.space, more, fits, word)
@@ -40,7 +40,7 @@ loop-element-preserved g c =
     let here = element-after c.args.words.now c.in-Some.others.now c.in-Some.first.now c.element-item.result c.loop-element.element-index split c.loop-element-test.true c.element-item.is in
     let part = c.bytes-in-loop-element.result.now in
     let is : part ≡ get_or lexicon (get_or vs k 0) [] =
-    c.bytes-in-loop-element.ensures ∙ c.word_of-in-loop-element.ensures.spells ∙ ap (λ v. get_or lexicon v []) here.1 in
+    c.bytes-in-loop-element.ensures.bytes ∙ c.word_of-in-loop-element.ensures.spells ∙ ap (λ v. get_or lexicon v []) here.1 in
     let text = spell lexicon (take k vs) in
     let more : spell lexicon (take (k + 1) vs) ≡ text ++ (32 ∷ part) = spell-more lexicon vs k (omega arith) here.0 ∙ ap (λ w. text ++ (32 ∷ w)) (sym is) in
     let long : length (text ++ (32 ∷ part)) ≡ length text + suc (length part) = length-append text (32 ∷ part) in
@@ -62,7 +62,7 @@ returns g c =
     let all = whole lexicon vs k (omega (arith, c.loop-element-test.false)) in
     let text = spell lexicon (take 1 vs) in
     let word : c.bytes.result.now ≡ text =
-    c.bytes.ensures ∙ c.word_of.ensures.spells ∙ ap (λ l. get_or lexicon (get_or (values l) 0 0) []) (sym split) ∙ sym (spell_one lexicon vs (omega arith)) in
+    c.bytes.ensures.bytes ∙ c.word_of.ensures.spells ∙ ap (λ l. get_or lexicon (get_or (values l) 0 0) []) (sym split) ∙ sym (spell_one lexicon vs (omega arith)) in
     let least = front_length lexicon vs 1 (omega arith) (omega arith) in
     let first = first-written c.append.result c.unwrap-at.result c.bytes.result.now text c.args.space.now c.append.new.space c.unwrap-at.ensures c.append.ensures.end c.append.ensures.holds word (omega (arith, c.requires)) in
     let reach : c.unwrap-at.result ≤ c.loop-element.at = omega (arith, first.0, c.loop-element.invariant.0, ap length all) in
