@@ -40,6 +40,7 @@ impl Class {
 pub fn first_forbidden(line: &[u8]) -> Option<usize>
     ensures { result ≡ first_forbidden 0 line.now }
 {
+    // One `match` says both ways out; `take_while` and `position` would class each byte twice.
     for (i, byte) in line.iter().enumerate() {
         match Class::of(*byte) {
             Class::Hash => return None,
@@ -80,6 +81,7 @@ impl<'a> Tokens<'a> {
     {
         let line = self.line;
         let mut state = State::Between;
+        // Over the rest of the line: `skip` would leave the loop's invariant no index.
         let from = self.position;
         let mut end = line.len();
         for (k, byte) in line[from..].iter().enumerate() {

@@ -32,6 +32,7 @@ fn read_words<L: Lexicon>(lexicon: &L, line: &[u8]) -> Result<Words, Refusal>
 {
     let mut read = Words::none();
     let mut tokens = Tokens::new(line);
+    // The remark ends the words as the end of the line does.
     while let Token::Word { offset, text } = tokens.next_token() {
         let index = look_up(lexicon, offset, text)?;
         read.push(index);
