@@ -1,6 +1,5 @@
 -- The lines that answer commands.
-use Rattle.std.specs.Prelude.{ℕ, List, ◌++◌, Some, None, Option, Ok, Err, codes, decimal, Result}
-use Rattle.digest.specs.Sha256.{sha256}
+use Rattle.std.specs.Prelude.{ℕ, List, ◌++◌, Ok, Err, codes, decimal, Result}
 use Rattle.hex.specs.Hex.{encode_lower}
 use Rattle.refusal.specs.Layers.{layer_name}
 use Rattle.refusal.specs.Refusals.{number_of, layer_of, place_of}
@@ -15,8 +14,3 @@ refused_text number layer place text = codes "refused " ++ decimal number ++ cod
 abbrev pub reply_text : Result ℕ Refusal → List ℕ → List ℕ
 reply_text (Ok count) space = encode_lower space
 reply_text (Err refusal) space = refused_text (number_of refusal) (layer_of refusal) (place_of refusal) (encode_lower space)
-
--- the answer to `sha256` and a message, if there is one
-abbrev pub hash_text : Option (List ℕ) → List ℕ
-hash_text None = codes "malformed"
-hash_text (Some message) = encode_lower (sha256 message)

@@ -1,8 +1,4 @@
 //! The commands, one to a line.
-ghost use Rattle.std.specs.Prelude.{◌≡◌, ◌==◌, None, IfOk, codes, position, string_bytes};
-ghost use Rattle.digests.specs.Data.{plain_bytes};
-ghost use Rattle.digests.specs.Replies.{hash_text};
-
 use crate::data::decode;
 use crate::reply::reply;
 use digest::{DrillDigest, HmacSha256, KeyedDigest, sha256_of};
@@ -31,16 +27,12 @@ impl<'a> From<&'a str> for Words<'a> {
     }
 }
 
-fn malformed(heap: Global) -> Result<String, AllocError>
-    ensures { IfOk result (λ s. string_bytes s ≡ codes "malformed") }
-{
+fn malformed(heap: Global) -> Result<String, AllocError> {
     String::from_str(heap, "malformed")
 }
 
 /// `sha256 MESSAGE`
-fn answer_hash(heap: Global, words: Words<'_>) -> Result<String, AllocError>
-    ensures plain { position (λ b. b == 42) words.entry.number.now ≡ None → IfOk result (λ s. string_bytes s ≡ hash_text (plain_bytes words.entry.number.now)) }
-{
+fn answer_hash(heap: Global, words: Words<'_>) -> Result<String, AllocError> {
     match decode(heap, words.number)? {
         Some(message) => hex::encode(heap, sha256_of(message.as_slice())),
         None => malformed(heap),

@@ -1,7 +1,7 @@
 //! Bytes as a command gives them: hexadecimal digits, or `-` for none; `*` and a count after them repeat them.
-ghost use Rattle.std.specs.Prelude.{◌≡◌, ◌==◌, None, IfOk, position};
+ghost use Rattle.std.specs.Prelude.{◌≡◌, ◌≢◌, ◌==◌, [], None, Some, IfOk, codes, position};
 ghost use Rattle.std.specs.Option.{option_map};
-ghost use Rattle.digests.specs.Data.{has_capital, bytes_in, plain_bytes};
+ghost use Rattle.digests.specs.Data.{has_capital, bytes_in};
 
 use hex::FromHexError;
 use std::alloc::{AllocError, Global};
@@ -28,7 +28,8 @@ fn unhex(heap: Global, digits: &[u8]) -> Result<Option<Vec<u8>>, AllocError>
 
 /// The bytes that a word of a command stands for.
 pub fn decode(heap: Global, word: &str) -> Result<Option<Vec<u8>>, AllocError>
-    ensures plain { position (λ b. b == 42) word.now ≡ None → IfOk result (λ bytes. option_map (λ v. v.items) bytes ≡ plain_bytes word.now) }
+    ensures none { word.now ≡ codes "-" → IfOk result (λ bytes. option_map (λ v. v.items) bytes ≡ Some []) }
+    ensures digits { word.now ≢ codes "-" → position (λ b. b == 42) word.now ≡ None → IfOk result (λ bytes. option_map (λ v. v.items) bytes ≡ bytes_in word.now) }
 {
     if word == "-" {
         return Ok(Some(Vec::new(heap)));
