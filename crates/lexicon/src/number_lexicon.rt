@@ -5,7 +5,7 @@ ghost use Rattle.lexicon.specs.NumberWordsLemmas as NumberWords;
 
 use crate::Lexicon;
 use crate::word::Word;
-use numbers::WordIndex;
+use numbers::{Number, WordIndex};
 
 #[derive(Clone, Copy, Debug)]
 pub struct NumberLexicon;

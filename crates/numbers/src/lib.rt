@@ -1,7 +1,37 @@
 //! The numbers on a card, each a type of its own: none can be out of its range, and none passes for another.
 #![tactic(auto)]
 
-ghost use Rattle.std.specs.Prelude.{◌≡◌, ◌<◌, ◌≤◌, MatchOption};
+ghost use Rattle.std.specs.Prelude.{◌≡◌, ℕ, ◌^◌, ◌<◌, ◌≤◌, MatchOption};
+ghost use Rattle.std.proofs.Common.{rules};
+
+mod parameters;
+
+pub use parameters::Parameters;
+
+/// A number from `LEAST` to `MOST`.
+pub trait Number: Copy {
+    const LEAST: u16;
+
+    const MOST: u16;
+
+    ghost LEAST: { ℕ };
+
+    ghost MOST: { ℕ };
+
+    ghost number: { Self → ℕ };
+
+    /// The number with this value, if the value is in the range.
+    fn new(value: u16) -> Option<Self>
+        ensures { MatchOption result (LEAST ≤ value → MOST < value) (λ n. number n ≡ value) };
+
+    /// Its value.
+    fn get(self) -> u16
+        ensures { result ≡ number self };
+
+    ghost fits: { MOST < 2 ^ 16 };
+
+    ghost in_range: { (n : Self) → (LEAST ≤ number n) × (number n ≤ MOST) };
+}
 
 /// Names the deal that a card comes from: 15 bits.
 #[derive(Clone, Copy, PartialEq, Eq, Debug)]
@@ -10,15 +40,31 @@ pub struct Identifier {
     ghost bound: { value < 32768 },
 }
 
-impl Identifier {
-    pub fn new(value: u16) -> Option<Identifier>
-        ensures { MatchOption result (32768 ≤ value) (λ n. n.value ≡ value) }
-    {
-        if value < 32768 {
+impl Number for Identifier {
+    const LEAST: u16 = 0;
+
+    const MOST: u16 = 32767;
+
+    ghost LEAST = { 0 };
+
+    ghost MOST = { 32767 };
+
+    ghost number = { λ n. n.value };
+
+    ghost fits = { Prim.search rules };
+
+    ghost in_range = { Prim.search rules };
+
+    fn new(value: u16) -> Option<Identifier> {
+        if Self::LEAST <= value && value <= Self::MOST {
             Some(Identifier { value })
         } else {
             None
         }
+    }
+
+    fn get(self) -> u16 {
+        self.value
     }
 }
 
@@ -29,15 +75,31 @@ pub struct Exponent {
     ghost bound: { value < 16 },
 }
 
-impl Exponent {
-    pub fn new(value: u8) -> Option<Exponent>
-        ensures { MatchOption result (16 ≤ value) (λ n. n.value ≡ value) }
-    {
-        if value < 16 {
-            Some(Exponent { value })
+impl Number for Exponent {
+    const LEAST: u16 = 0;
+
+    const MOST: u16 = 15;
+
+    ghost LEAST = { 0 };
+
+    ghost MOST = { 15 };
+
+    ghost number = { λ n. n.value };
+
+    ghost fits = { Prim.search rules };
+
+    ghost in_range = { Prim.search rules };
+
+    fn new(value: u16) -> Option<Exponent> {
+        if Self::LEAST <= value && value <= Self::MOST {
+            Some(Exponent { value: value as u8 })
         } else {
             None
         }
+    }
+
+    fn get(self) -> u16 {
+        u16::from(self.value)
     }
 }
 
@@ -48,15 +110,31 @@ pub struct RoundNumber {
     ghost bound: { value < 4 },
 }
 
-impl RoundNumber {
-    pub fn new(value: u8) -> Option<RoundNumber>
-        ensures { MatchOption result (4 ≤ value) (λ n. n.value ≡ value) }
-    {
-        if value < 4 {
-            Some(RoundNumber { value })
+impl Number for RoundNumber {
+    const LEAST: u16 = 0;
+
+    const MOST: u16 = 3;
+
+    ghost LEAST = { 0 };
+
+    ghost MOST = { 3 };
+
+    ghost number = { λ n. n.value };
+
+    ghost fits = { Prim.search rules };
+
+    ghost in_range = { Prim.search rules };
+
+    fn new(value: u16) -> Option<RoundNumber> {
+        if Self::LEAST <= value && value <= Self::MOST {
+            Some(RoundNumber { value: value as u8 })
         } else {
             None
         }
+    }
+
+    fn get(self) -> u16 {
+        u16::from(self.value)
     }
 }
 
@@ -67,15 +145,31 @@ pub struct GroupNumber {
     ghost bound: { value < 16 },
 }
 
-impl GroupNumber {
-    pub fn new(value: u8) -> Option<GroupNumber>
-        ensures { MatchOption result (16 ≤ value) (λ n. n.value ≡ value) }
-    {
-        if value < 16 {
-            Some(GroupNumber { value })
+impl Number for GroupNumber {
+    const LEAST: u16 = 0;
+
+    const MOST: u16 = 15;
+
+    ghost LEAST = { 0 };
+
+    ghost MOST = { 15 };
+
+    ghost number = { λ n. n.value };
+
+    ghost fits = { Prim.search rules };
+
+    ghost in_range = { Prim.search rules };
+
+    fn new(value: u16) -> Option<GroupNumber> {
+        if Self::LEAST <= value && value <= Self::MOST {
+            Some(GroupNumber { value: value as u8 })
         } else {
             None
         }
+    }
+
+    fn get(self) -> u16 {
+        u16::from(self.value)
     }
 }
 
@@ -86,15 +180,31 @@ pub struct MemberNumber {
     ghost bound: { value < 16 },
 }
 
-impl MemberNumber {
-    pub fn new(value: u8) -> Option<MemberNumber>
-        ensures { MatchOption result (16 ≤ value) (λ n. n.value ≡ value) }
-    {
-        if value < 16 {
-            Some(MemberNumber { value })
+impl Number for MemberNumber {
+    const LEAST: u16 = 0;
+
+    const MOST: u16 = 15;
+
+    ghost LEAST = { 0 };
+
+    ghost MOST = { 15 };
+
+    ghost number = { λ n. n.value };
+
+    ghost fits = { Prim.search rules };
+
+    ghost in_range = { Prim.search rules };
+
+    fn new(value: u16) -> Option<MemberNumber> {
+        if Self::LEAST <= value && value <= Self::MOST {
+            Some(MemberNumber { value: value as u8 })
         } else {
             None
         }
+    }
+
+    fn get(self) -> u16 {
+        u16::from(self.value)
     }
 }
 
@@ -106,15 +216,31 @@ pub struct Threshold {
     ghost most: { value ≤ 16 },
 }
 
-impl Threshold {
-    pub fn new(value: u8) -> Option<Threshold>
-        ensures { MatchOption result (1 ≤ value → 17 ≤ value) (λ n. n.value ≡ value) }
-    {
-        if 1 <= value && value <= 16 {
-            Some(Threshold { value })
+impl Number for Threshold {
+    const LEAST: u16 = 1;
+
+    const MOST: u16 = 16;
+
+    ghost LEAST = { 1 };
+
+    ghost MOST = { 16 };
+
+    ghost number = { λ n. n.value };
+
+    ghost fits = { Prim.search rules };
+
+    ghost in_range = { Prim.search rules };
+
+    fn new(value: u16) -> Option<Threshold> {
+        if Self::LEAST <= value && value <= Self::MOST {
+            Some(Threshold { value: value as u8 })
         } else {
             None
         }
+    }
+
+    fn get(self) -> u16 {
+        u16::from(self.value)
     }
 }
 
@@ -126,15 +252,31 @@ pub struct GroupCount {
     ghost most: { value ≤ 16 },
 }
 
-impl GroupCount {
-    pub fn new(value: u8) -> Option<GroupCount>
-        ensures { MatchOption result (1 ≤ value → 17 ≤ value) (λ n. n.value ≡ value) }
-    {
-        if 1 <= value && value <= 16 {
-            Some(GroupCount { value })
+impl Number for GroupCount {
+    const LEAST: u16 = 1;
+
+    const MOST: u16 = 16;
+
+    ghost LEAST = { 1 };
+
+    ghost MOST = { 16 };
+
+    ghost number = { λ n. n.value };
+
+    ghost fits = { Prim.search rules };
+
+    ghost in_range = { Prim.search rules };
+
+    fn new(value: u16) -> Option<GroupCount> {
+        if Self::LEAST <= value && value <= Self::MOST {
+            Some(GroupCount { value: value as u8 })
         } else {
             None
         }
+    }
+
+    fn get(self) -> u16 {
+        u16::from(self.value)
     }
 }
 
@@ -145,14 +287,30 @@ pub struct WordIndex {
     ghost bound: { value < 1024 },
 }
 
-impl WordIndex {
-    pub fn new(value: u16) -> Option<WordIndex>
-        ensures { MatchOption result (1024 ≤ value) (λ n. n.value ≡ value) }
-    {
-        if value < 1024 {
+impl Number for WordIndex {
+    const LEAST: u16 = 0;
+
+    const MOST: u16 = 1023;
+
+    ghost LEAST = { 0 };
+
+    ghost MOST = { 1023 };
+
+    ghost number = { λ n. n.value };
+
+    ghost fits = { Prim.search rules };
+
+    ghost in_range = { Prim.search rules };
+
+    fn new(value: u16) -> Option<WordIndex> {
+        if Self::LEAST <= value && value <= Self::MOST {
             Some(WordIndex { value })
         } else {
             None
         }
+    }
+
+    fn get(self) -> u16 {
+        self.value
     }
 }

@@ -1,10 +1,8 @@
 -- One word more among the words that are kept.
 use Rattle.std.proofs.Common.{◌≡◌, ℕ, ◌+◌, ◌<◌, ◌≤◌, List, [], ◌∷◌, ◌++◌, length, take, set, sym, ap, ◌∙◌, ap₂, arith}
-use Rattle.std.proofs.lemmas.List.{take_more_set, take_all, take-append-le, map_push, length_push, length-map, length-take-le}
+use Rattle.std.proofs.lemmas.List.{take_more_set, take_all, take-append-le, map_push, length_push}
 use Rattle.field.specs.declared.gf1024.Gf1024.{Gf1024}
-use Rattle.reader.specs.declared.words.Words.{Words}
 use Rattle.checksum.specs.Values.{values}
-use Rattle.reader.specs.Words.{kept}
 
 -- there is room for it
 pub pushed : (es : List Gf1024) (e : Gf1024) (v : ℕ) (ws : List ℕ) → length es ≡ 59 → length ws < 59 → e.value ≡ v
@@ -25,7 +23,3 @@ passed es v ws size h first =
     let more : length (ws ++ (v ∷ [])) ≡ length ws + 1 = length_push ws v in
     ap values (take_all (length (ws ++ (v ∷ []))) es (omega arith) ∙ sym (take_all (length ws) es (omega arith)))
     ∙ first ∙ sym (take-append-le 59 ws (v ∷ []) h)
-
--- as many words are kept as are counted, up to 59
-pub kept-length : (w : Words) → w.count ≤ 59 → length (kept w) ≡ w.count
-kept-length w h = length-map (take w.count w.elements) (λ a. a.value) ∙ length-take-le w.count w.elements (let size = w.size in omega arith)

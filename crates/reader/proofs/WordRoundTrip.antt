@@ -6,7 +6,7 @@ use Rattle.std.specs.Int.Digits.{number_from_digits, number_from_digits_after, A
 use Rattle.std.proofs.lemmas.Nat.{pow_pos, mod-pow-add, shr-shr, shr_high, mod_low}
 use Rattle.std.proofs.lemmas.Int.Digits.{number_lt}
 use Rattle.std.proofs.ByRecursion.{All-append}
-use Rattle.std.proofs.lemmas.List.{take_at, drop_at, ext_get_or}
+use Rattle.std.proofs.lemmas.List.{take_at, take_more, drop_at, ext_get_or}
 use Rattle.std.proofs.lemmas.Bool.{eq-eqb, ne_eqb, and_from, le-leb}
 use Rattle.reader.specs.Bits.{bits_in, bits_at}
 use Rattle.reader.specs.Card.{Fields}
@@ -42,6 +42,19 @@ unfolding words_for
 words_for-at zero n j h = absurd (not-suc-le-zero h)
 words_for-at (suc k) n zero h = ap (λ m. n / 2 ^ (10 * m) % 1024) (omega arith)
 words_for-at (suc k) n (suc j) h = words_for-at k n j (omega arith) ∙ ap (λ m. n / 2 ^ (10 * m) % 1024) (omega arith)
+
+-- one word more of a number's words, of which those for k tens of bits are to come
+pub word-pushed : (front : List ℕ) (count n k w : ℕ) → 0 < k → k ≤ count → w ≡ n / 2 ^ (10 * (k - 1)) % 1024
+    → (front ++ take (count - k) (words_for count n)) ++ (w ∷ []) ≡ front ++ take (count - (k - 1)) (words_for count n)
+word-pushed front count n k w h l e =
+    let j = count - k in
+    let words = words_for count n in
+    let size = length-words_for count n in
+    let place : count - 1 - j ≡ k - 1 = omega arith in
+    let more : count - (k - 1) ≡ j + 1 = omega arith in
+    let is : w ≡ get_or words j 0 = e ∙ ap (λ m. n / 2 ^ (10 * m) % 1024) (sym place) ∙ sym (words_for-at count n j (omega arith)) in
+    append_assoc front (take j words) (w ∷ [])
+    ∙ ap (λ l. front ++ l) (ap (λ x. take j words ++ (x ∷ [])) is ∙ sym (take_more words j 0 (omega arith)) ∙ ap (λ m. take m words) (sym more))
 
 -- equally many digits that write the same number are the same
 pub same_digits : (b m n : ℕ) (xs ys : List ℕ) → AllBelowBase b xs → AllBelowBase b ys → length xs ≡ length ys → number_from_digits_after b m xs ≡ number_from_digits_after b n ys → (m ≡ n) × (xs ≡ ys)

@@ -1,5 +1,5 @@
 -- The fields of a card, as numbers and bytes.
-use Rattle.std.specs.Prelude.{ℕ, Bool, List, take}
+use Rattle.std.specs.Prelude.{ℕ, Bool, List}
 use Rattle.reader.specs.declared.card.Card.{Card}
 use Rattle.reader.specs.declared.card_parts.CardParts.{CardParts}
 
@@ -14,21 +14,6 @@ pub record Fields : Type 0 where
   pub member_threshold : ℕ
   pub value : List ℕ
 
-abbrev pub fields_of : Card → Fields
-fields_of c =
-    record {
-      identifier = c.identifier.value;
-      extendable = c.extendable;
-      exponent = c.exponent.value;
-      group = c.group.value;
-      group_threshold = c.group_threshold.value;
-      group_count = c.group_count.value;
-      member = c.member.value;
-      member_threshold = c.member_threshold.value;
-      value = take c.value.length c.value.bytes;
-    }
-
--- the same of parts that are not checked against each other
 abbrev pub parts_of : CardParts → Fields
 parts_of c =
     record {
@@ -40,5 +25,8 @@ parts_of c =
       group_count = c.group_count.value;
       member = c.member.value;
       member_threshold = c.member_threshold.value;
-      value = take c.value.length c.value.bytes;
+      value = c.value.bytes;
     }
+
+abbrev pub fields_of : Card → Fields
+fields_of c = parts_of c.parts

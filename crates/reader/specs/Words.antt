@@ -3,10 +3,6 @@ use Rattle.std.specs.Prelude.{◌≡◌, ℕ, List, length, take}
 use Rattle.reader.specs.declared.words.Words.{Words}
 use Rattle.checksum.specs.Values.{values}
 
--- the words that are kept
-abbrev pub kept : Words → List ℕ
-kept w = values (take w.count w.elements)
-
 pub record Holds (w : Words) (ws : List ℕ) : Type 0 where
   pub count : w.count ≡ length ws
   pub first : values (take (length ws) w.elements) ≡ take 59 ws

@@ -22,30 +22,22 @@ pub struct CardParts {
     pub value: Value,
 }
 
-impl CardParts {
+impl TryFrom<CardParts> for Card {
+    type Error = Refusal;
+
+    ghost try_from_gives = { λ parts result. meant result ≡ checked_fields (parts_of parts) };
+
     /// The card of these parts: its group and the groups wanted have to exist, and at member threshold 1 there is only
     /// member 0.
-    pub fn checked(self) -> Result<Card, Refusal>
-        ensures { meant result ≡ checked_fields (parts_of self) }
-    {
-        if self.group_threshold.value > self.group_count.value
-            || self.group.value >= self.group_count.value
+    fn try_from(parts: CardParts) -> Result<Card, Refusal> {
+        if parts.group_threshold.value > parts.group_count.value
+            || parts.group.value >= parts.group_count.value
         {
             return Err(Refusal::GroupNumbers);
         }
-        if self.member_threshold.value == 1 && self.member.value != 0 {
+        if parts.member_threshold.value == 1 && parts.member.value != 0 {
             return Err(Refusal::MemberAtThresholdOne);
         }
-        Ok(Card {
-            identifier: self.identifier,
-            extendable: self.extendable,
-            exponent: self.exponent,
-            group: self.group,
-            group_threshold: self.group_threshold,
-            group_count: self.group_count,
-            member: self.member,
-            member_threshold: self.member_threshold,
-            value: self.value,
-        })
+        Ok(Card { parts })
     }
 }

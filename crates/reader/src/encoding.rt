@@ -9,20 +9,22 @@ use crate::card::Card;
 use crate::words::Words;
 use checksum::check_words;
 use field::gf1024::Gf1024;
-use numbers::WordIndex;
+use numbers::{Number, WordIndex};
 
 /// The fields before the value, in forty bits.
 fn header_number(card: &Card) -> u64
     ensures value { result ≡ header_number (fields_of card.now) }
     ensures bound { result < 2 ^ 40 }
 {
-    let flag: u64 = if card.extendable { 1 } else { 0 };
-    let deal = (u64::from(card.identifier.value) * 2 + flag) * 16 + u64::from(card.exponent.value);
-    let group = (deal * 16 + u64::from(card.group.value)) * 16
-        + (u64::from(card.group_threshold.value) - 1);
-    let member = (group * 16 + (u64::from(card.group_count.value) - 1)) * 16
-        + u64::from(card.member.value);
-    member * 16 + (u64::from(card.member_threshold.value) - 1)
+    let parts = &card.parts;
+    let flag = u64::from(parts.extendable);
+    let deal = (u64::from(parts.identifier.value) * 2 + flag) * 16
+        + u64::from(parts.exponent.value);
+    let group = (deal * 16 + u64::from(parts.group.value)) * 16
+        + (u64::from(parts.group_threshold.value) - 1);
+    let member = (group * 16 + (u64::from(parts.group_count.value) - 1)) * 16
+        + u64::from(parts.member.value);
+    member * 16 + (u64::from(parts.member_threshold.value) - 1)
 }
 
 /// The ten bits of a number that end `after` bits before its end.
@@ -67,10 +69,9 @@ fn header_words(card: &Card) -> Words
 {
     let number = header_number(card);
     let mut words = Words::none();
-    words.push(ten_bits(number, 30));
-    words.push(ten_bits(number, 20));
-    words.push(ten_bits(number, 10));
-    words.push(ten_bits(number, 0));
+    for k in (0..4).rev() {
+        words.push(ten_bits(number, 10 * k));
+    }
     words
 }
 
@@ -80,22 +81,23 @@ fn data_words(card: &Card) -> Words
     ensures few { result.count ≤ 56 }
 {
     let mut words = header_words(card);
-    let value = card.value.bytes();
+    let value = card.parts.value.bytes();
     let count = (8 * value.len() + 9) / 10;
-    for k in 0..count {
-        words.push(value_word(value, 10 * (count - 1 - k)));
+    for k in (0..count).rev() {
+        words.push(value_word(value, 10 * k));
     }
     words
 }
 
 /// The card's words.
 pub(crate) fn encode(card: &Card) -> Words
-    ensures { Holds result (words_of (fields_of card.now)) }
+    ensures holds { Holds result (words_of (fields_of card.now)) }
+    ensures few { result.count ≤ 59 }
 {
     let mut words = data_words(card);
-    let check = check_words(card.extendable, &words.elements[0..words.count]);
-    words.push(index_of(check[0]));
-    words.push(index_of(check[1]));
-    words.push(index_of(check[2]));
+    let check = check_words(card.parts.extendable, &words.elements[..words.count]);
+    for element in check {
+        words.push(index_of(element));
+    }
     words
 }

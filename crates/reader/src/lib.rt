@@ -4,6 +4,7 @@
 mod bits;
 pub mod card;
 pub mod card_parts;
+mod card_words;
 mod decoding;
 mod encoding;
 pub mod line;

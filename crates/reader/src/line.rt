@@ -2,12 +2,12 @@
 ghost use Rattle.std.specs.Prelude.{◌≡◌, ◌≤◌, length, None};
 ghost use Rattle.reader.specs.Line.{class_of, first_forbidden, Gives};
 
-/// What the reader is in, from one byte to the next.
+/// What the reader is in, from one byte to the next: a word or a remark with its offset.
 #[derive(Clone, Copy, PartialEq, Eq, Debug)]
 pub enum State {
     Between,
-    InWord,
-    InRemark,
+    InWord { start: usize },
+    InRemark { start: usize },
 }
 
 /// What a byte is to the reader.
@@ -44,8 +44,7 @@ pub fn first_forbidden(line: &[u8]) -> Option<usize>
         match Class::of(*byte) {
             Class::Hash => return None,
             Class::Forbidden => return Some(i),
-            Class::Blank => {}
-            Class::Letter => {}
+            Class::Blank | Class::Letter => {}
         }
     }
     None
@@ -81,41 +80,36 @@ impl<'a> Tokens<'a> {
     {
         let line = self.line;
         let mut state = State::Between;
-        let mut start = self.position;
-        let mut i = self.position;
-        while i < line.len() {
-            state = match (state, Class::of(line[i])) {
+        let from = self.position;
+        let mut end = line.len();
+        for (k, byte) in line[from..].iter().enumerate() {
+            let i = from + k;
+            state = match (state, Class::of(*byte)) {
                 (State::Between, Class::Blank) => State::Between,
-                (State::Between, Class::Hash) => {
-                    start = i;
-                    State::InRemark
+                (State::Between, Class::Hash) => State::InRemark { start: i },
+                (State::Between, Class::Letter) | (State::Between, Class::Forbidden) => {
+                    State::InWord { start: i }
                 }
-                (State::Between, Class::Letter) => {
-                    start = i;
-                    State::InWord
+                // Two arms: a pattern with `|` that binds `start` tells a proof nothing of it.
+                (State::InWord { start }, Class::Letter) => State::InWord { start },
+                (State::InWord { start }, Class::Forbidden) => State::InWord { start },
+                (State::InWord { .. }, Class::Blank) | (State::InWord { .. }, Class::Hash) => {
+                    end = i;
+                    break;
                 }
-                (State::Between, Class::Forbidden) => {
-                    start = i;
-                    State::InWord
-                }
-                (State::InWord, Class::Letter) => State::InWord,
-                (State::InWord, Class::Forbidden) => State::InWord,
-                (State::InWord, Class::Blank) => break,
-                (State::InWord, Class::Hash) => break,
-                (State::InRemark, _) => State::InRemark,
+                (State::InRemark { start }, _) => State::InRemark { start },
             };
-            i += 1;
         }
-        self.position = i;
+        self.position = end;
         match state {
-            State::Between => Token::End { offset: i },
-            State::InWord => Token::Word {
+            State::Between => Token::End { offset: end },
+            State::InWord { start } => Token::Word {
                 offset: start,
-                text: &line[start..i],
+                text: &line[start..end],
             },
-            State::InRemark => Token::Remark {
+            State::InRemark { start } => Token::Remark {
                 offset: start,
-                text: &line[start..i],
+                text: &line[start..end],
             },
         }
     }

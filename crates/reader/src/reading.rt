@@ -18,13 +18,12 @@ use refusal::Refusal;
 fn look_up<L: Lexicon>(lexicon: &L, offset: usize, text: &[u8]) -> Result<WordIndex, Refusal>
     ensures { indexed result ≡ index_at (L.words lexicon.now) offset text.now }
 {
-    if text.len() < 4 {
-        return Err(Refusal::NoSuchWord { offset });
-    }
-    match lexicon.find(text) {
-        Some(index) => Ok(index),
-        None => Err(Refusal::NoSuchWord { offset }),
-    }
+    let found = if text.len() < 4 {
+        None
+    } else {
+        lexicon.find(text)
+    };
+    found.ok_or(Refusal::NoSuchWord { offset })
 }
 
 /// The words of a line without forbidden bytes.

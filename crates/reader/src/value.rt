@@ -1,35 +1,35 @@
 //! The value of a card.
-ghost use Rattle.std.specs.Prelude.{◌≡◌, ℕ, ◌%◌, ◌<◌, ◌≤◌, length as length_of, take, None, MatchOption, slice_index};
+ghost use Rattle.std.specs.Prelude.{◌≡◌, ℕ, ◌%◌, ◌<◌, ◌≤◌, length, take, None, MatchOption, slice_index};
+
+use memory::Bytes;
 
 /// The bytes that a card holds of a secret: an even number, 16 to 64. They lie in the value itself, since freed
 /// memory would keep them.
 #[derive(Clone, Copy)]
 pub struct Value {
-    bytes: [u8; 64],
-    length: usize,
-    ghost least: { 16 ≤ length },
-    ghost most: { length ≤ 64 },
-    ghost even: { length % 2 ≡ 0 },
-    ghost whole: { length_of bytes ≡ 64 },
+    bytes: Bytes<64>,
+    ghost least: { 16 ≤ length bytes },
+    ghost most: { length bytes ≤ 64 },
+    ghost even: { length bytes % 2 ≡ 0 },
     ghost small: { (i : ℕ) → slice_index bytes i < 256 },
 }
 
 impl Value {
-    /// The first `length` of the bytes, if a value may have that length.
-    pub fn new(bytes: [u8; 64], length: usize) -> Option<Value>
-        ensures { MatchOption result (16 ≤ length → length ≤ 64 → length % 2 ≡ 1) (λ v. (v.bytes ≡ bytes) × (v.length ≡ length)) }
+    /// The first `count` of the bytes, if a value may have that many.
+    pub fn new(bytes: [u8; 64], count: usize) -> Option<Value>
+        ensures { MatchOption result (16 ≤ count → count ≤ 64 → count % 2 ≡ 1) (λ v. (length v.bytes ≡ count) × (v.bytes ≡ take count bytes)) }
     {
-        if 16 <= length && length <= 64 && length % 2 == 0 {
-            Some(Value { bytes, length })
-        } else {
-            None
+        let bytes = Bytes::new(bytes, count);
+        let kept = bytes.as_slice();
+        if kept.len() < count || count < 16 || count % 2 != 0 {
+            return None;
         }
+        Some(Value { bytes })
     }
 
     pub fn bytes(&self) -> &[u8]
-        ensures bytes { result.now ≡ take self.now.length self.now.bytes }
-        ensures size { length_of result.now ≡ self.now.length }
+        ensures { result.now ≡ self.now.bytes }
     {
-        &self.bytes[0..self.length]
+        self.bytes.as_slice()
     }
 }

@@ -1,29 +1,19 @@
 //! From a card to its text.
-ghost use Rattle.std.specs.Prelude.{◌≡◌, ℕ, ◌+◌, ◌*◌, ◌<◌, ◌≤◌, List, [], ◌∷◌, ◌++◌, length, take, drop, Ok, Err, slice_index, slice_index_or};
+ghost use Rattle.std.specs.Prelude.{◌≡◌, ℕ, ◌+◌, ◌*◌, ◌≤◌, List, [], ◌∷◌, ◌++◌, length, take, drop, sum_by, Ok, Err, slice_index_or};
 ghost use Rattle.reader.specs.Card.{fields_of};
+ghost use Rattle.checksum.specs.Values.{values};
 ghost use Rattle.lexicon.specs.Lexicon.{spelling};
 ghost use Rattle.reader.specs.Reading.{reading as reading_of};
 ghost use Rattle.reader.specs.Spelling.{ReadAs, Notices};
-ghost use Rattle.reader.specs.Words.{kept};
 ghost use Rattle.reader.specs.Writing.{Plain, spell, text_of, count_or_refusal, space_after};
 
 use crate::card::Card;
 use crate::encoding::{encode, index_of};
-use crate::words::Words;
+use field::gf1024::Gf1024;
 use lexicon::Lexicon;
 use lexicon::word::Word;
+use memory::append;
 use refusal::{Layer, Refusal};
-
-/// Writes `part` at `at`, and says where it ends.
-fn append(space: &mut [u8], at: usize, part: &[u8]) -> usize
-    requires { at + length part.now ≤ length space.old }
-    ensures end { result ≡ at + length part.now }
-    ensures holds { space.new ≡ take at space.old ++ (part.now ++ drop (at + length part.now) space.old) }
-{
-    let end = at + part.len();
-    space[at..end].copy_from_slice(part);
-    end
-}
 
 /// Writes a space and then `part` at `at`, and says where it ends.
 fn append_after_space(space: &mut [u8], at: usize, part: &[u8]) -> usize
@@ -31,41 +21,54 @@ fn append_after_space(space: &mut [u8], at: usize, part: &[u8]) -> usize
     ensures end { result ≡ at + (1 + length part.now) }
     ensures holds { space.new ≡ take at space.old ++ ((32 ∷ part.now) ++ drop (at + length (32 ∷ part.now)) space.old) }
 {
-    let next = append(space, at, b" ");
-    append(space, next, part)
+    let next = append(space, at, b" ").unwrap();
+    append(space, next, part).unwrap()
 }
 
-/// The word at `k`.
-fn word_at<L: Lexicon>(lexicon: &L, list: &Words, k: usize) -> Word
-    requires { (k < list.now.count) × (list.now.count ≤ 59) }
-    ensures spells { spelling result ≡ slice_index_or (L.words lexicon.now) (slice_index (kept list.now) k) [] }
-    ensures least { 4 ≤ length (spelling result) }
+/// The word that an element stands for.
+fn word_of<L: Lexicon>(lexicon: &L, element: Gf1024) -> Word
+    ensures spells { spelling result ≡ slice_index_or (L.words lexicon.now) element.value [] }
     ensures most { length (spelling result) ≤ 8 }
 {
-    lexicon.word(index_of(list.elements[k]))
+    lexicon.word(index_of(element))
+}
+
+/// How many letters that word has.
+fn letters<L: Lexicon>(lexicon: &L, element: Gf1024) -> usize
+    ensures same { result ≡ length (slice_index_or (L.words lexicon.now) element.value []) }
+    ensures few { result ≤ 8 }
+{
+    word_of(lexicon, element).bytes().len()
+}
+
+/// How many letters the words have.
+fn all_letters<L: Lexicon>(lexicon: &L, words: &[Gf1024]) -> usize
+    requires { length words.now ≤ 59 }
+    ensures same { result ≡ sum_by (λ (element : Gf1024). length (slice_index_or (L.words lexicon.now) element.value [])) words.now }
+    ensures few { result ≤ 8 * length words.now }
+{
+    words.iter().map(|element| letters(lexicon, *element)).sum()
 }
 
 /// How many bytes the text of the words has.
-fn text_length<L: Lexicon>(lexicon: &L, list: &Words) -> usize
-    requires { (1 ≤ list.now.count) × (list.now.count ≤ 59) }
-    ensures { result ≡ length (spell (L.words lexicon.now) (kept list.now)) }
+fn text_length<L: Lexicon>(lexicon: &L, words: &[Gf1024]) -> usize
+    requires { length words.now ≤ 59 }
+    ensures { result ≡ length (spell (L.words lexicon.now) (values words.now)) }
 {
-    let mut total = word_at(lexicon, list, 0).bytes().len();
-    for k in 1..list.count {
-        total += 1 + word_at(lexicon, list, k).bytes().len();
-    }
-    total
+    all_letters(lexicon, words) + words.len().saturating_sub(1)
 }
 
 /// Writes the text of the words, for which there is room.
-fn write_words<L: Lexicon>(lexicon: &L, list: &Words, space: &mut [u8])
-    requires counted { (1 ≤ list.now.count) × (list.now.count ≤ 59) }
-    requires room { length (spell (L.words lexicon.now) (kept list.now)) ≤ length space.old }
-    ensures { space.new ≡ spell (L.words lexicon.now) (kept list.now) ++ drop (length (spell (L.words lexicon.now) (kept list.now))) space.old }
+fn write_words<L: Lexicon>(lexicon: &L, words: &[Gf1024], space: &mut [u8])
+    requires { length (spell (L.words lexicon.now) (values words.now)) ≤ length space.old }
+    ensures { space.new ≡ spell (L.words lexicon.now) (values words.now) ++ drop (length (spell (L.words lexicon.now) (values words.now))) space.old }
 {
-    let mut at = append(space, 0, word_at(lexicon, list, 0).bytes());
-    for k in 1..list.count {
-        at = append_after_space(space, at, word_at(lexicon, list, k).bytes());
+    let Some((first, others)) = words.split_first() else {
+        return;
+    };
+    let mut at = append(space, 0, word_of(lexicon, *first).bytes()).unwrap();
+    for element in others {
+        at = append_after_space(space, at, word_of(lexicon, *element).bytes());
     }
 }
 
@@ -81,13 +84,14 @@ pub fn write_card<L: Lexicon>(lexicon: &L, card: &Card, space: &mut [u8]) -> Res
     ensures damaged { Notices (L.words lexicon.now) (fields_of card.now) }
 {
     let list = encode(card);
-    let wanted = text_length(lexicon, &list);
+    let words = list.all().unwrap();
+    let wanted = text_length(lexicon, words);
     if space.len() < wanted {
         return Err(Refusal::SpaceTooShort {
             layer: Layer::Text,
             wanted,
         });
     }
-    write_words(lexicon, &list, space);
+    write_words(lexicon, words, space);
     Ok(wanted)
 }

@@ -11,7 +11,7 @@ use super::WordFile;
 use crate::Lexicon;
 use crate::byte_order::{begins_with, comes_before};
 use crate::word::Word;
-use numbers::WordIndex;
+use numbers::{Number, WordIndex};
 
 impl WordFile {
     /// How many words come before the bytes.

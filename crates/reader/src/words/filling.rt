@@ -1,5 +1,5 @@
 //! Filling the words of a line, one after the other.
-ghost use Rattle.std.specs.Prelude.{◌≡◌, ℕ, ◌+◌, ◌^◌, ◌<◌, List, [], ◌∷◌, ◌++◌};
+ghost use Rattle.std.specs.Prelude.{◌≡◌, ℕ, ◌+◌, ◌^◌, ◌<◌, List, [], ◌∷◌, ◌++◌, length, take, None, MatchOption};
 ghost use Rattle.reader.specs.Words.{Holds};
 
 use super::Words;
@@ -27,5 +27,12 @@ impl Words {
             self.elements[self.count] = element;
         }
         self.count += 1;
+    }
+
+    /// All the words, if there are no more than are kept.
+    pub(crate) fn all(&self) -> Option<&[Gf1024]>
+        ensures { MatchOption result (59 < self.now.count) (λ all. (length all.now ≡ self.now.count) × (all.now ≡ take self.now.count self.now.elements)) }
+    {
+        self.elements.get(..self.count)
     }
 }

@@ -17,7 +17,7 @@ returns c =
     let pair = c.byte_after_zero-high.result * 256 + c.byte_after_zero-low.result in
     let small : AllBelowBase 256 value = All-from_get_or (λ d. d < 256) value 0 (λ k h. (c.type_inv.value k).fits) in
     let word : c.unwrap.result.value ≡ pair / 2 ^ (6 - from % 8) % 1024 =
-    MatchOption-at_some (1024 ≤ pair / 2 ^ (6 - from % 8) % 1024) (λ i. i.value ≡ pair / 2 ^ (6 - from % 8) % 1024) c.unwrap.result c.unwrap.ensures c.new.ensures in
+    MatchOption-at_some (0 ≤ pair / 2 ^ (6 - from % 8) % 1024 → 1023 < pair / 2 ^ (6 - from % 8) % 1024) (λ i. i.value ≡ pair / 2 ^ (6 - from % 8) % 1024) c.unwrap.result c.unwrap.ensures c.new.ensures in
     let even = c.requires.even in
     let inside = c.requires.inside in
     let off : 16 - from % 8 - 10 ≡ 6 - from % 8 = omega arith in

@@ -1,11 +1,9 @@
 -- One word more, a word that counts for nothing, and the end of the words.
-use Rattle.std.proofs.Common.{◌≡◌, ℕ, ◌+◌, List, [], ◌∷◌, ◌++◌, length, Ok, sym, refl, ap, ◌∙◌, subst, arith, Bor}
+use Rattle.std.proofs.Common.{◌≡◌, ◌+◌, [], ◌∷◌, ◌++◌, length, sym, ap, ◌∙◌, subst, arith}
 use Rattle.std.proofs.lemmas.List.{length_push}
-use Rattle.reader.specs.declared.line.Token.{Token}
-use Rattle.reader.specs.declared.line.Token.TheVariants.{Word, Remark, End}
-use Rattle.reader.specs.Line.{word, pieces_from, Gives}
-use Rattle.reader.specs.Reading.{indices_in, prefixed}
-use Rattle.reader.proofs.IndicesOfPieces.{prefixed-none, one_more, at-remark, at-end}
+use Rattle.reader.specs.Line.{word, pieces_from}
+use Rattle.reader.specs.Reading.{indices_in}
+use Rattle.reader.proofs.IndicesOfPieces.{prefixed-none, one_more}
 use Rattle.reader.proofs.reading.read_words.Goals as goal
 
 pub loop-offset-init : goal.loop-offset-init
@@ -37,26 +35,5 @@ loop-offset-preserved g c =
           kept,
           sym (one_more lexicon front c.in-Word.offset v c.in-Word.text.now _ _ next (sym c.in_ok-index.ensures)) ∙ c.loop-offset.invariant.2.1.1,
         ),
-      ),
-    )
-
--- what comes when no word does
-ended : (lexicon : List (List ℕ)) (line front : List ℕ) (p q : ℕ) (t : Token) → ((o : ℕ) (x : Bor (List ℕ)) → t ≡ Word o x → ⊥) → Gives line p t q
-    → prefixed front (indices_in lexicon (pieces_from line p)) ≡ Ok front
-ended lexicon line front p q (Word o x) none gives = absurd (none o x refl)
-ended lexicon line front p q (Remark o x) none gives = at-remark lexicon front o x.now (pieces_from line p) gives.0
-ended lexicon line front p q (End o) none gives = at-end lexicon front (pieces_from line p) gives.0
-
-pub returns : goal.returns
-returns g c =
-    let lexicon = g.L.Lexicon.words c.args.lexicon.now in
-    let front = c.loop-offset.invariant.2.0 in
-    let p = c.loop-offset.tokens.position in
-    let q = c.next_token.new.self.position in
-    let gives = subst (λ l. Gives l p c.next_token.result q) c.loop-offset.invariant.0 c.next_token.ensures.gives in (
-      front,
-      (
-        c.loop-offset.invariant.2.1.0,
-        sym c.loop-offset.invariant.2.1.1 ∙ ended lexicon c.args.line.now front p q c.next_token.result c.in_default.not-Word gives,
       ),
     )
