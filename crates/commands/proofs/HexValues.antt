@@ -89,8 +89,8 @@ module _ (text : List ℕ) where
   many_digits h = failed (and_right (only_digits 16 text) _ (and_right fours _ (and_right (leb 32 (length text)) _ (lt-leb (length text) 128 h))))
 
   pub value_made : (bytes : List ℕ) (count : ℕ) → length text ≡ 2 * count → only_digits 16 text ≡ true → take count bytes ≡ bytes_in text → (r : Option Value)
-      → MatchOption r (16 ≤ count → count ≤ 64 → count % 2 ≡ 1) (λ v. (v.bytes ≡ bytes) × (v.length ≡ count))
-      → option_map (λ v. take v.length v.bytes) r ≡ value_from text
+      → MatchOption r (16 ≤ count → count ≤ 64 → count % 2 ≡ 1) (λ v. (length v.bytes ≡ count) × (v.bytes ≡ take count bytes))
+      → option_map (λ v. v.bytes) r ≡ value_from text
   value_made bytes count size only same None h =
       elim (cases_Bool (fours && inside)) [
         | inl e ↦
@@ -107,8 +107,8 @@ module _ (text : List ℕ) where
       let least = v.least in
       let most = v.most in
       let even = v.even in
-      let long = h.1 in
-      ap Some (ap₂ take h.1 h.0 ∙ same)
+      let long = h.0 in
+      ap Some (h.1 ∙ same)
       ∙ sym (cond-true (is_value text) (Some (bytes_in text)) None
       (and_from (only_digits 16 text) _ only
       (and_from fours _ (eq-eqb (length text % 4) 0 (omega arith))

@@ -21,14 +21,15 @@ pub fn hex(heap: Global, bytes: &[u8]) -> Result<String, AllocError>
     hex::encode(heap, bytes)
 }
 
+// The fields are put together in parts: the check does not prove the text of one format of nine fields.
 fn deal_fields(heap: Global, card: &Card) -> Result<String, AllocError>
     ensures { IfOk result (λ s. string_bytes s ≡ deal_fields (fields_of card.now)) }
 {
     format!(in heap;
         "identifier={} flag={} exponent={}",
-        card.identifier.value,
-        u8::from(card.extendable),
-        card.exponent.value,
+        card.parts.identifier.value,
+        u8::from(card.parts.extendable),
+        card.parts.exponent.value,
     )
 }
 
@@ -37,7 +38,7 @@ fn group_fields(heap: Global, card: &Card) -> Result<String, AllocError>
 {
     format!(in heap;
         "group={} group_threshold={} group_count={}",
-        card.group.value, card.group_threshold.value, card.group_count.value,
+        card.parts.group.value, card.parts.group_threshold.value, card.parts.group_count.value,
     )
 }
 
@@ -46,7 +47,7 @@ fn member_fields(heap: Global, card: &Card) -> Result<String, AllocError>
 {
     format!(in heap;
         "member={} member_threshold={}",
-        card.member.value, card.member_threshold.value,
+        card.parts.member.value, card.parts.member_threshold.value,
     )
 }
 
@@ -57,7 +58,7 @@ pub fn card_line(heap: Global, card: &Card) -> Result<String, AllocError>
     let deal = deal_fields(heap, card)?;
     let group = group_fields(heap, card)?;
     let member = member_fields(heap, card)?;
-    let value = hex(heap, card.value.bytes())?;
+    let value = hex(heap, card.parts.value.bytes())?;
     format!(in heap; "card {deal} {group} {member} value={value}")
 }
 

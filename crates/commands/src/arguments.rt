@@ -1,11 +1,11 @@
 //! The arguments of a command, with one space between them.
-ghost use Rattle.std.specs.Prelude.{◌≡◌, take, if◌then◌else◌, Some, None, ◌==◌};
+ghost use Rattle.std.specs.Prelude.{◌≡◌, if◌then◌else◌, Some, None, ◌==◌};
 ghost use Rattle.std.specs.Option.{option_map};
 ghost use Rattle.reader.specs.Card.{parts_of};
 ghost use Rattle.commands.specs.Arguments.{separated, digit_from, number_in, is_number, number_from, value_from, fields_from};
 
-use crate::shim::Number;
 use crate::text::cut;
+use numbers::Number;
 use reader::card_parts::CardParts;
 use reader::value::Value;
 
@@ -47,7 +47,7 @@ fn flag(text: &[u8]) -> Option<bool>
 
 /// The value that hexadecimal digits write, two for each byte.
 fn value(text: &[u8]) -> Option<Value>
-    ensures { option_map (λ v. take v.length v.bytes) result ≡ value_from text.now }
+    ensures { option_map (λ v. v.bytes) result ≡ value_from text.now }
 {
     let count = text.len() / 2;
     if count > 64 {
@@ -62,6 +62,7 @@ fn value(text: &[u8]) -> Option<Value>
 pub(crate) fn card_parts(line: &[u8]) -> Option<CardParts>
     ensures { option_map parts_of result ≡ fields_from (separated line.now) }
 {
+    // One after the other, since the borrow checker does not cover an `Option` of nine texts taken from `split`.
     let (identifier, rest) = cut(line);
     let (extendable, rest) = cut(rest?);
     let (exponent, rest) = cut(rest?);

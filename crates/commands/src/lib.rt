@@ -7,5 +7,4 @@ pub mod command;
 pub mod serving;
 pub mod session;
 pub mod settings;
-mod shim;
 pub mod text;

@@ -15,5 +15,5 @@ pub returns : goal.returns
 returns c =
     let joined : IfOk c.format.result (λ s. string_bytes s ≡ card_text (string_bytes c.in_ok-deal.deal) (string_bytes c.in_ok-group.group) (string_bytes c.in_ok-member.member) (string_bytes c.in_ok-value.value)) = search (rules, append_assoc) in
     IfOk-weaker c.format.result _ _
-    (λ s h. h ∙ card_parts (fields_of c.args.card.now) c.in_ok-deal.ensures c.in_ok-group.ensures c.in_ok-member.ensures (c.in_ok-value.ensures ∙ ap hex_of c.bytes.ensures.bytes))
+    (λ s h. h ∙ card_parts (fields_of c.args.card.now) c.in_ok-deal.ensures c.in_ok-group.ensures c.in_ok-member.ensures (c.in_ok-value.ensures ∙ ap hex_of c.bytes.ensures))
     joined

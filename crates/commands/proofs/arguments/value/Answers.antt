@@ -11,7 +11,7 @@ returns-then-count-gt64 c = many_digits c.args.text.now (omega (arith, c.if-coun
 pub returns-in_err-ok : goal.returns-in_err-ok
 returns-in_err-ok c =
     let text = c.args.text.now in
-    ap (option_map (λ v. take v.length v.bytes)) c.from_residual.ensures
+    ap (option_map (λ v. v.bytes)) c.from_residual.ensures
     ∙ refused text _ (search rules) c.decode_to_slice.result _ c.decode_to_slice.ensures.value (sym c.ok.ensures.variant ∙ ap is_some c.in_err-ok.was)
 
 pub returns : goal.returns
