@@ -1,11 +1,11 @@
 -- The lines that answer commands, as bytes.
-use Rattle.std.specs.Prelude.{◌≡◌, ℕ, ◌+◌, ◌/◌, ◌%◌, true, cond, List, [], ◌∷◌, ◌++◌, codes, decimal, nat_lt}
+use Rattle.std.specs.Prelude.{◌≡◌, ℕ, ◌+◌, ◌/◌, ◌%◌, cond, List, [], ◌∷◌, ◌++◌, codes, decimal, nat_lt}
 use Rattle.reader.specs.Card.{Fields}
 use Rattle.reader.specs.Writing.{text_of}
 use Rattle.refusal.specs.declared.Refusal.{Refusal}
 use Rattle.refusal.specs.Layers.{layer_name}
 use Rattle.refusal.specs.Refusals.{number_of, layer_of, place_of}
-use Rattle.refusal.specs.Sentences.{plain_line}
+use Rattle.refusal.specs.Sentences.{sentence_of}
 
 -- a digit from 0 to f, in ASCII
 abbrev pub hex_digit : ℕ → ℕ
@@ -50,11 +50,8 @@ card_line f = card_text (deal_fields f) (group_fields f) (member_fields f) (hex_
 abbrev pub text_line : List (List ℕ) → Fields → List ℕ
 text_line words f = codes "text " ++ text_of words f
 
--- a sentence for a person follows the colon, and nothing after it
-pub record RefusedLine (refusal : Refusal) (line : List ℕ) : Type 0 where
-  pub sentence : List ℕ
-  pub plain : plain_line sentence ≡ true
-  pub whole :
-      line ≡
-      codes "refused " ++ decimal (number_of refusal) ++ codes " " ++ layer_name (layer_of refusal) ++ codes " " ++
-      decimal (place_of refusal) ++ codes ": " ++ sentence
+-- a refusal; its sentence for a person follows the colon, and nothing after it
+abbrev pub refused_line : Refusal → List ℕ
+refused_line refusal =
+    codes "refused " ++ decimal (number_of refusal) ++ codes " " ++ layer_name (layer_of refusal) ++ codes " " ++
+    decimal (place_of refusal) ++ codes ": " ++ sentence_of refusal

@@ -3,7 +3,7 @@ use Rattle.std.specs.Prelude.{◌≡◌, ℕ, ◌+◌, ◌-◌, ◌^◌, min, Li
 use Rattle.reader.specs.Card.{Fields}
 use Rattle.reader.specs.Reading.{reading, checked_fields}
 use Rattle.refusal.specs.declared.Refusal.{Refusal}
-use Rattle.commands.specs.Answers.{card_line, text_line, RefusedLine}
+use Rattle.commands.specs.Answers.{card_line, text_line, refused_line}
 use Rattle.commands.specs.Arguments.{separated, fields_from}
 use Rattle.commands.specs.Commands.{Request, nothing, read_card, write_card, malformed, unknown}
 use Rattle.commands.specs.declared.session.Answer.{Answer}
@@ -13,7 +13,7 @@ use Rattle.commands.specs.declared.session.Outcome.TheVariants.{Done, Refused, E
 
 -- what a command gets that is refused
 abbrev pub RefusedAnswer : Refusal → Answer → Type 0
-RefusedAnswer refusal a = (a.outcome ≡ Refused) × RefusedLine refusal (string_bytes a.text)
+RefusedAnswer refusal a = (a.outcome ≡ Refused) × (string_bytes a.text ≡ refused_line refusal)
 
 -- what `read` answers to a card or a refusal
 abbrev pub ReadAnswer : Result Fields Refusal → Answer → Type 0

@@ -2,7 +2,7 @@
 ghost use Rattle.std.specs.Prelude.{◌≡◌, length, IfOk, string_bytes};
 ghost use Rattle.reader.specs.Card.{fields_of};
 ghost use Rattle.reader.specs.Writing.{Plain, text_of};
-ghost use Rattle.commands.specs.Answers.{hex_of, deal_fields, group_fields, member_fields, card_line, text_line, RefusedLine};
+ghost use Rattle.commands.specs.Answers.{hex_of, deal_fields, group_fields, member_fields, card_line, text_line, refused_line};
 
 use lexicon::Lexicon;
 use reader::card::Card;
@@ -89,7 +89,7 @@ pub fn text_line<L: Lexicon>(heap: Global, lexicon: &L, card: &Card) -> Result<S
 
 /// The answer that tells of a refusal.
 pub fn refused_line(heap: Global, refusal: Refusal) -> Result<String, AllocError>
-    ensures { IfOk result (λ s. RefusedLine refusal (string_bytes s)) }
+    ensures { IfOk result (λ s. string_bytes s ≡ refused_line refusal) }
 {
     format!(in heap;
         "refused {} {} {}: {}",

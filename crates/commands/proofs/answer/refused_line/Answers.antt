@@ -1,8 +1,7 @@
--- .
+-- The parts of the line, put together from the left.
 use Rattle.std.proofs.Common.{append_assoc, rules}
 use Rattle.std.proofs.lemmas.Result.{IfOk-weaker}
 use Rattle.commands.proofs.answer.refused_line.Goals as goal
 
 pub returns : goal.returns
-returns c =
-    IfOk-weaker c.format.result _ _ (λ s h. record { sentence = c.sentence.result.now; plain = c.sentence.ensures; whole = search (rules, append_assoc) }) c.format.ensures.ok
+returns c = IfOk-weaker c.format.result _ _ (λ s h. search (rules, append_assoc)) c.format.ensures.ok
