@@ -1,5 +1,5 @@
 -- The lines that answer commands, as bytes.
-use Rattle.std.specs.Prelude.{◌≡◌, ℕ, ◌+◌, ◌/◌, ◌%◌, cond, List, [], ◌∷◌, ◌++◌, codes, decimal, nat_lt}
+use Rattle.std.specs.Prelude.{ℕ, ◌+◌, ◌/◌, ◌%◌, cond, List, [], ◌∷◌, ◌++◌, codes, decimal, nat_lt}
 use Rattle.reader.specs.Card.{Fields}
 use Rattle.reader.specs.Writing.{text_of}
 use Rattle.refusal.specs.declared.Refusal.{Refusal}

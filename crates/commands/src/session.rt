@@ -152,7 +152,11 @@ fn write_answer<L: Lexicon>(
     let Some(parts) = card_parts(arguments) else {
         return malformed_answer(heap, Verb::Write);
     };
-    card_answer(heap, Card::try_from(parts), |card| text_line(heap, lexicon, card))
+    card_answer(
+        heap,
+        Card::try_from(parts),
+        |card| text_line(heap, lexicon, card),
+    )
 }
 
 /// Carries out a command.
