@@ -1,10 +1,10 @@
 -- The fields of a card, one argument after the other.
-use Rattle.std.proofs.Common.{◌≡◌, ℕ, zero, suc, Bool, true, false, cond, eqb, List, [], ◌∷◌, length, get_or, Some, None, Option, Bor, is_some, sym, refl, ap, ◌∙◌, ◌<◌, ◌+◌, arith}
+use Rattle.std.proofs.Common.{◌≡◌, ℕ, zero, suc, Bool, true, false, cond, eqb, List, [], ◌∷◌, length, get_or, Some, None, Option, Bor, is_some, sym, refl, ap, ◌∙◌, ◌<◌, arith}
 use Rattle.std.proofs.lemmas.Bool.{and_left, and_right, and_from, cond-true, cond-false, eq-eqb, ne_eqb, true≢false}
 use Rattle.std.proofs.lemmas.List.Splits.{length-slice_split}
 use Rattle.std.specs.Option.{option_map}
 use Rattle.reader.specs.Card.{Fields}
-use Rattle.commands.specs.Arguments.{separated, texts_in, argument_at, number_in, is_number, number_from, is_value, value_from, card_tests, all_pass, card_fields, fields_from}
+use Rattle.commands.specs.Arguments.{texts_in, argument_at, number_in, is_number, number_from, is_value, value_from, card_tests, all_pass, card_fields, fields_from}
 use Rattle.commands.proofs.DecimalNumbers.{some-passed}
 
 one-fails : (ts : List Bool) (k : ℕ) → get_or ts k true ≡ false → all_pass ts ≡ false

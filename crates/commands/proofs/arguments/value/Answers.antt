@@ -1,5 +1,5 @@
 -- What comes of the digits, by what the library says of them.
-use Rattle.std.proofs.Common.{◌/◌, length, take, is_some, sym, ap, ◌∙◌, arith, rules}
+use Rattle.std.proofs.Common.{◌/◌, length, is_some, sym, ap, ◌∙◌, arith, rules}
 use Rattle.std.proofs.lemmas.List.{take_at}
 use Rattle.std.specs.Option.{option_map}
 use Rattle.commands.proofs.HexValues.{many_digits, refused, read_all, value_made}
