@@ -39,15 +39,14 @@ impl<'a> CardWords<'a> {
         }
     }
 
-    /// The number that `count` bits of the first four words write, with `more` added.
-    fn number<N: Number>(&self, from: usize, count: u32, more: u16) -> N
+    /// The number that `count` bits of the first four words write: 0 stands for the least.
+    fn number<N: Number>(&self, from: usize, count: u32) -> N
         requires early { from + count ≤ 40 }
         requires narrow { from % 10 + count ≤ 20 }
-        requires least { N.LEAST ≤ more }
-        requires most { 2 ^ count + more ≤ N.MOST + 1 }
-        ensures { N.number result ≡ bits_at (values self.now.words.now) from count + more }
+        requires fits { 2 ^ count + N.LEAST ≤ N.MOST + 1 }
+        ensures { N.number result ≡ bits_at (values self.now.words.now) from count + N.LEAST }
     {
-        N::new(bits_at(self.words, from, count) as u16 + more).unwrap()
+        N::new(bits_at(self.words, from, count) as u16 + N::LEAST).unwrap()
     }
 
     fn extendable(&self) -> bool
@@ -89,14 +88,14 @@ impl<'a> CardWords<'a> {
         ensures { meant result ≡ checked_fields (fields_in (values self.now.words.now)) }
     {
         Card::try_from(CardParts {
-            identifier: self.number(0, 15, 0),
+            identifier: self.number(0, 15),
             extendable: self.extendable(),
-            exponent: self.number(16, 4, 0),
-            group: self.number(20, 4, 0),
-            group_threshold: self.number(24, 4, 1),
-            group_count: self.number(28, 4, 1),
-            member: self.number(32, 4, 0),
-            member_threshold: self.number(36, 4, 1),
+            exponent: self.number(16, 4),
+            group: self.number(20, 4),
+            group_threshold: self.number(24, 4),
+            group_count: self.number(28, 4),
+            member: self.number(32, 4),
+            member_threshold: self.number(36, 4),
             value: self.value(),
         })
     }

@@ -1,5 +1,5 @@
 //! From a card's fields to its words.
-ghost use Rattle.std.specs.Prelude.{◌≡◌, ℕ, ◌+◌, ◌*◌, ◌/◌, ◌%◌, ◌^◌, ◌<◌, ◌≤◌, List, ◌∷◌, ◌++◌, length, slice_index};
+ghost use Rattle.std.specs.Prelude.{◌≡◌, ℕ, ◌+◌, ◌-◌, ◌*◌, ◌/◌, ◌%◌, ◌^◌, ◌<◌, ◌≤◌, List, ◌∷◌, ◌++◌, length, slice_index};
 ghost use Rattle.std.specs.Int.Digits.{number_from_digits};
 ghost use Rattle.reader.specs.Card.{fields_of};
 ghost use Rattle.reader.specs.Words.{Holds};
@@ -11,6 +11,14 @@ use checksum::check_words;
 use field::gf1024::Gf1024;
 use numbers::{Number, WordIndex};
 
+/// What is written of a number: how far it is above the least.
+fn above_least<N: Number>(number: N) -> u64
+    ensures value { result ≡ N.number number - N.LEAST }
+    ensures bound { result + N.LEAST ≤ N.MOST }
+{
+    u64::from(number.get() - N::LEAST)
+}
+
 /// The fields before the value, in forty bits.
 fn header_number(card: &Card) -> u64
     ensures value { result ≡ header_number (fields_of card.now) }
@@ -18,13 +26,10 @@ fn header_number(card: &Card) -> u64
 {
     let parts = &card.parts;
     let flag = u64::from(parts.extendable);
-    let deal = (u64::from(parts.identifier.value) * 2 + flag) * 16
-        + u64::from(parts.exponent.value);
-    let group = (deal * 16 + u64::from(parts.group.value)) * 16
-        + (u64::from(parts.group_threshold.value) - 1);
-    let member = (group * 16 + (u64::from(parts.group_count.value) - 1)) * 16
-        + u64::from(parts.member.value);
-    member * 16 + (u64::from(parts.member_threshold.value) - 1)
+    let deal = (above_least(parts.identifier) * 2 + flag) * 16 + above_least(parts.exponent);
+    let group = (deal * 16 + above_least(parts.group)) * 16 + above_least(parts.group_threshold);
+    let member = (group * 16 + above_least(parts.group_count)) * 16 + above_least(parts.member);
+    member * 16 + above_least(parts.member_threshold)
 }
 
 /// The ten bits of a number that end `after` bits before its end.
