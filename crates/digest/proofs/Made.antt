@@ -1,9 +1,10 @@
--- Arrays whose elements a closure gave, each from its index or from the element of another array.
-use Rattle.std.proofs.Common.{◌≡◌, ℕ, zero, suc, ◌+◌, ◌<◌, ◌≤◌, List, map, length, get_or, refl, sym, ap, subst, ◌∙◌, inl, inr, arith}
+-- Arrays whose elements a closure gave, each from its index or from the element of another array; and chunks.
+use Rattle.std.proofs.Common.{◌≡◌, ℕ, zero, suc, ◌+◌, ◌*◌, ◌<◌, ◌≤◌, List, map, length, get_or, take, drop, refl, sym, ap, subst, ◌∙◌, inl, inr, arith}
 use Rattle.std.specs.List.{range_with_len}
+use Rattle.std.specs.Simd.{first_chunks}
 use Rattle.std.specs.Array.{IsFromFnResult, IsFromFnResultFrom, IsMapOf, MapsFrom}
 use Rattle.std.proofs.lemmas.Bool.{cases_lt}
-use Rattle.std.proofs.lemmas.List.{ext_get_or, length-map, get_or-map}
+use Rattle.std.proofs.lemmas.List.{ext_get_or, length-map, get_or-map, drop-drop}
 use Rattle.std.proofs.lemmas.List.FromFn.{fill_by_all}
 use denote.Param.Members.{Mut, Called}
 
@@ -35,3 +36,11 @@ module _ {F : Type 0} (g : Mut F (ℕ × Unit {0}) ℕ) (f : F) (h : ℕ → ℕ
   maps_by xs ys n long made =
       ext_get_or 0 ys (map h xs) (made.long ∙ sym (length-map xs h ∙ long))
       (λ k lt. maps_from xs ys 0 n f refl made.each k (omega arith) (omega (arith, made.long)) ∙ sym (get_or-map h xs k 0 0 (omega (arith, made.long))))
+
+-- the chunk i of some elements
+pub chunk_at : {X : Type 0} (n k : ℕ) (xs : List X) (i : ℕ) (d : List X) → i < k → get_or (first_chunks n k xs) i d ≡ take n (drop (n * i) xs)
+chunk_at n zero xs i d h = absurd (omega arith)
+chunk_at n (suc k) xs zero d h = let none : 0 ≡ n * 0 = omega arith in ap (λ j. take n (drop j xs)) none
+chunk_at n (suc k) xs (suc i) d h =
+    let at : n + n * i ≡ n * suc i = omega arith in
+    chunk_at n k (drop n xs) i d (omega arith) ∙ ap (take n) (drop-drop (n * i) n xs ∙ ap (λ j. drop j xs) at)

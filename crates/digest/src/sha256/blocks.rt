@@ -11,14 +11,8 @@ pub(crate) fn load<const N: usize>(bytes: &[u8]) -> [u32; N]
     requires { length bytes.now ≡ 4 * N }
     ensures { result ≡ words_of N bytes.now }
 {
-    array::from_fn(|t| {
-        u32::from_be_bytes([
-            bytes[4 * t],
-            bytes[4 * t + 1],
-            bytes[4 * t + 2],
-            bytes[4 * t + 3],
-        ])
-    })
+    let (words, _) = bytes.as_chunks::<4>();
+    array::from_fn(|t| u32::from_be_bytes(words[t]))
 }
 
 /// The hash value after whole blocks.

