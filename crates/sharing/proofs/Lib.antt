@@ -1,5 +1,4 @@
 -- The lemmas of the crate `sharing`.
-pub mod ElementValues
 pub mod PositionPolynomials
 pub mod Places
 pub mod FlatShares

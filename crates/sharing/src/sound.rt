@@ -91,15 +91,15 @@ impl<'s, 'a> SoundShares<'s, 'a> {
         ensures { result ≡ byte_through (plain self.now.shares.now) x j }
     {
         let mut points = [Point {
-            x: Gf256::new(0),
-            y: Gf256::new(0),
+            x: Gf256::from(0),
+            y: Gf256::from(0),
         }; MOST_SHARES];
         for (i, share) in self.shares.iter().enumerate() {
             points[i] = share.point(j);
         }
-        interpolate(&points[..self.shares.len()], Gf256::new(x))
+        interpolate(&points[..self.shares.len()], Gf256::from(x))
             .unwrap()
-            .value()
+            .into()
     }
 
     /// The value at `x`.

@@ -48,14 +48,3 @@ impl Binary for Gf1024 {
         power
     }
 }
-
-/// The element with the value of a byte.
-impl From<u8> for Gf1024 {
-    ghost from_gives = { λ byte element. (element.value ≡ byte) × (element ≡ element_of byte) };
-
-    fn from(value: u8) -> Gf1024 {
-        Gf1024 {
-            value: u16::from(value),
-        }
-    }
-}
