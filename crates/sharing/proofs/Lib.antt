@@ -2,6 +2,7 @@
 pub mod PositionPolynomials
 pub mod Places
 pub mod FlatShares
+pub mod EachByte
 pub mod LentShares
 pub mod ByteValues
 pub mod CurveTheorems

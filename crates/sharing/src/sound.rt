@@ -116,15 +116,11 @@ impl<'s, 'a> SoundShares<'s, 'a> {
     fn value_is(&self, x: u8, value: &[u8]) -> bool
         ensures { Decides result (value_through self.now.length (plain self.now.shares.now) x ≡ value.now) }
     {
-        if value.len() != self.length {
-            return false;
-        }
-        for (j, byte) in value.iter().enumerate() {
-            if *byte != self.byte_at(x, j) {
-                return false;
-            }
-        }
-        true
+        value.len() == self.length
+            && value
+                .iter()
+                .enumerate()
+                .all(|(j, byte)| *byte == self.byte_at(x, j))
     }
 
     /// Whether others lie on the polynomials through these.
