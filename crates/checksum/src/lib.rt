@@ -44,7 +44,7 @@ fn is_one_at(a: u8, extendable: bool, words: &[Gf1024]) -> bool
     ensures { result ≡ ((value_at (element 0) (element 1) sum product (element a) (coefficients extendable (values words.now))).value == 1) }
 {
     let x = Gf1024::from(a);
-    evaluate(x, customization_at(x, extendable), words).value() == 1
+    evaluate(x, customization_at(x, extendable), words) == Gf1024::one()
 }
 
 /// Whether the polynomial of a card leaves the remainder 1 on division by (x - 2)(x - 4)(x - 8).

@@ -27,6 +27,7 @@ pub fn interpolate<F: Field>(points: &[Point<F>], x: F) -> Option<F>
 {
     let mut total = F::zero();
     for (i, point) in points.iter().enumerate() {
+        // The place is where the points are parted into those before and those after.
         let before = times_quotients(point.y, x, point.x, &points[..i])?;
         let term = times_quotients(before, x, point.x, &points[i + 1..])?;
         total = total.plus(term);

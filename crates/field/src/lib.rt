@@ -5,7 +5,8 @@ ghost use Rattle.std.specs.Prelude.{◌≡◌, Option as Maybe};
 ghost use Rattle.field.specs.Laws.{Laws};
 
 /// Fields of polynomials over two values.
-pub mod binary;
+// Private: its functions ask that bits lie below 2^degree, which no public function asks.
+mod binary;
 /// The field of 256 elements.
 pub mod gf256;
 /// The field of 1,024 elements.

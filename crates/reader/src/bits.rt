@@ -12,8 +12,8 @@ pub(crate) fn bits_at(words: &[Gf1024], from: usize, count: u32) -> u32
     ensures value { result ≡ bits_at (values words.now) from count }
     ensures bound { result < 2 ^ count }
 {
-    let high = words[from / 10].value();
-    let low = words[from / 10 + 1].value();
+    let high = u16::from(words[from / 10]);
+    let low = u16::from(words[from / 10 + 1]);
     let pair = u32::from(high) * 1024 + u32::from(low);
     let after = 20 - (from % 10) as u32 - count;
     (pair >> after) % (1 << count)

@@ -66,7 +66,7 @@ fn value_word(value: &[u8], after: usize) -> WordIndex
 pub(crate) fn index_of(element: Gf1024) -> WordIndex
     ensures { result.value ≡ element.value }
 {
-    WordIndex::new(element.value()).unwrap()
+    WordIndex::new(element.into()).unwrap()
 }
 
 fn header_words(card: &Card) -> Words

@@ -7,7 +7,6 @@ use Rattle.field.specs.Interpolation.{Distinct, xs_of, lagrange, Interpolated}
 use Rattle.sharing.specs.declared.share.Share.{Share as Lent}
 use Rattle.sharing.specs.Values.{plain, points_at, byte_through, Sound}
 use Rattle.sharing.proofs.PositionPolynomials as Positions
-use Rattle.sharing.proofs.ElementValues.{by_value}
 use Rattle.sharing.proofs.LentShares.{shares_sound}
 
 some : (points : List (Point Gf256)) (e : Gf256) (r : Option Gf256) → Interpolated (element 0) (element 1) sum product inverse e points r → Distinct (xs_of points)
@@ -25,8 +24,8 @@ module _ (n : ℕ) (shares : List Lent) (sound : Sound n shares) (x j : ℕ) (po
   pub there : is_some r ≡ true
   there = ap is_some value-is
 
-  pub byte_is : (v : Gf256) (b : ℕ) → e.value ≡ x → r ≡ Some v → b ≡ v.value → b ≡ byte_through (plain shares) x j
+  pub byte_is : (v : Gf256) (b : ℕ) → e ≡ element x → r ≡ Some v → b ≡ v.value → b ≡ byte_through (plain shares) x j
   unfolding byte_through
   byte_is v b ex rv bv =
       let vv : v ≡ lagrange (element 0) (element 1) sum product inverse e points = cc (value-is) in
-      bv ∙ ap (λ a. a.value) (vv ∙ ap₂ (lagrange (element 0) (element 1) sum product inverse) (by_value e x ex) is)
+      bv ∙ ap (λ a. a.value) (vv ∙ ap₂ (lagrange (element 0) (element 1) sum product inverse) ex is)

@@ -1,8 +1,8 @@
 -- The lemmas of the crate `sharing`.
-pub mod ElementValues
 pub mod PositionPolynomials
 pub mod Places
 pub mod FlatShares
+pub mod EachByte
 pub mod LentShares
 pub mod ByteValues
 pub mod CurveTheorems

@@ -44,6 +44,7 @@ fn fixing_shares<'a>(
 {
     let last = Share::new(255, secret);
     let mut shares = [last; MOST_SHARES];
+    // The place of a value in the array is its place on the curve.
     for (i, value) in drawn.chunks_exact(secret.len()).enumerate() {
         shares[i] = Share::new(i as u8, value);
     }

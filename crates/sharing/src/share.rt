@@ -31,8 +31,8 @@ impl<'a> Share<'a> {
         ensures { result ≡ record { x = element self.now.x; y = element (slice_index self.now.value.now j) } }
     {
         Point {
-            x: Gf256::new(self.x),
-            y: Gf256::new(self.value[j]),
+            x: Gf256::from(self.x),
+            y: Gf256::from(self.value[j]),
         }
     }
 }

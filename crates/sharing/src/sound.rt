@@ -90,16 +90,18 @@ impl<'s, 'a> SoundShares<'s, 'a> {
         requires { j < self.now.length }
         ensures { result ≡ byte_through (plain self.now.shares.now) x j }
     {
+        // An array, since the points hold bytes of secrets, filled by place: the library says nothing of what
+        // `iter_mut().zip(..)` leaves.
         let mut points = [Point {
-            x: Gf256::new(0),
-            y: Gf256::new(0),
+            x: Gf256::from(0),
+            y: Gf256::from(0),
         }; MOST_SHARES];
         for (i, share) in self.shares.iter().enumerate() {
             points[i] = share.point(j);
         }
-        interpolate(&points[..self.shares.len()], Gf256::new(x))
+        interpolate(&points[..self.shares.len()], Gf256::from(x))
             .unwrap()
-            .value()
+            .into()
     }
 
     /// The value at `x`.
@@ -116,15 +118,11 @@ impl<'s, 'a> SoundShares<'s, 'a> {
     fn value_is(&self, x: u8, value: &[u8]) -> bool
         ensures { Decides result (value_through self.now.length (plain self.now.shares.now) x ≡ value.now) }
     {
-        if value.len() != self.length {
-            return false;
-        }
-        for (j, byte) in value.iter().enumerate() {
-            if *byte != self.byte_at(x, j) {
-                return false;
-            }
-        }
-        true
+        value.len() == self.length
+            && value
+                .iter()
+                .enumerate()
+                .all(|(j, byte)| *byte == self.byte_at(x, j))
     }
 
     /// Whether others lie on the polynomials through these.

@@ -1,5 +1,5 @@
 -- The value of the words after that of the customization string.
-use Rattle.std.proofs.Common.{◌≡◌, eqb, sym, ap, ◌∙◌}
+use Rattle.std.proofs.Common.{◌≡◌, eqb, sym, ap, ◌∙◌, ap₂}
 use Rattle.field.specs.Gf1024.{element}
 use Rattle.field.specs.Gf1024Laws.{laws}
 use Rattle.field.proofs.Horner.{after-value}
@@ -16,4 +16,5 @@ returns c =
     let start : c.customization_at.result ≡ at x (element 1) (front e) = c.customization_at.ensures ∙ bytes_value x (element 1) (customization e) in
     let all : c.evaluate.result ≡ val x (coefficients e (values ws)) =
     c.evaluate.ensures ∙ sym (after-value laws x c.customization_at.result ws) ∙ ap (λ y. at x y ws) start ∙ sym (words-value x e ws) in
-    ap (λ n. eqb n 1) (c.value.ensures ∙ ap (λ a. a.value) (all ∙ ap (λ y. val y (coefficients e (values ws))) c.from-x.ensures.1))
+    c.eq.ensures
+    ∙ ap₂ eqb (ap (λ a. a.value) (all ∙ ap (λ y. val y (coefficients e (values ws))) c.from-x.ensures.1)) (ap (λ a. a.value) c.one.ensures)

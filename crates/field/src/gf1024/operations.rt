@@ -28,6 +28,7 @@ impl Binary for Gf1024 {
     /// From the highest bit of `b` down.
     fn multiply(a: u16, b: u16) -> u16 {
         let mut product: u16 = 0;
+        // The count is a bit's place.
         for i in (0u32..10).rev() {
             let doubled = product * 2;
             // x^10 is x^3 + 1, which is 9.
@@ -41,21 +42,11 @@ impl Binary for Gf1024 {
     fn invert(a: u16) -> u16 {
         let mut square = a;
         let mut power = 1;
-        for _i in 0u32..9 {
+        // As many rounds as there are squares, and both numbers change: a fold would carry them as a pair.
+        for _ in 0u32..9 {
             square = Gf1024::multiply(square, square);
             power = Gf1024::multiply(power, square);
         }
         power
-    }
-}
-
-/// The element with the value of a byte.
-impl From<u8> for Gf1024 {
-    ghost from_gives = { λ byte element. (element.value ≡ byte) × (element ≡ element_of byte) };
-
-    fn from(value: u8) -> Gf1024 {
-        Gf1024 {
-            value: u16::from(value),
-        }
     }
 }

@@ -23,7 +23,7 @@ impl Words {
         ensures counts { self.new.count ≡ self.old.count + 1 }
     {
         if self.count < 59 {
-            let element = Gf1024::new(index.value).unwrap();
+            let element = Gf1024::try_from(index.value).unwrap();
             self.elements[self.count] = element;
         }
         self.count += 1;

@@ -17,9 +17,9 @@ returns c =
     let size : length (values words) ≡ length words = length-map words (λ a. a.value) in
     let mask : (1 * 2 ^ count) % 4294967296 ≡ 2 ^ count = one_shl count 32 (omega arith) in
     let high : c.from.result ≡ get_or (values words) (from / 10) 0 =
-    c.from.ensures ∙ c.value-high.ensures ∙ sym (value-at words (from / 10) c.index-words-from.result (omega arith) c.index-words-from.is) in
+    c.from.ensures ∙ c.from-high.ensures ∙ sym (value-at words (from / 10) c.index-words-from.result (omega arith) c.index-words-from.is) in
     let low : c.from-2.result ≡ get_or (values words) (from / 10 + 1) 0 =
-    c.from-2.ensures ∙ c.value-low.ensures ∙ sym (value-at words (from / 10 + 1) c.index-words-from-2.result (omega arith) c.index-words-from-2.is) in
+    c.from-2.ensures ∙ c.from-low.ensures ∙ sym (value-at words (from / 10 + 1) c.index-words-from-2.result (omega arith) c.index-words-from-2.is) in
     record {
       value =
           ap (λ n. (c.from.result * 1024 + c.from-2.result) / 2 ^ after % n) mask

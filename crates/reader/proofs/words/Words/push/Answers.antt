@@ -1,7 +1,8 @@
 -- A word joins those that are kept while there is room, and is counted.
 use Rattle.std.proofs.Common.{◌≡◌, ◌+◌, ◌<◌, ◌≤◌, [], ◌∷◌, ◌++◌, length, take, set, refl, ap, ◌∙◌, arith}
 use Rattle.std.proofs.lemmas.List.{length_push}
-use Rattle.std.proofs.lemmas.Option.{MatchOption-at_some}
+use Rattle.std.proofs.lemmas.Result.{MatchResult-at_ok}
+use Rattle.field.specs.Gf1024.{element}
 use Rattle.checksum.specs.Values.{values}
 use Rattle.reader.proofs.KeptWords.{pushed, passed}
 use Rattle.reader.proofs.words.Words.push.Goals as goal
@@ -19,7 +20,7 @@ returns c =
                 elim c.if-self-lt59.branch [
                   | then-self-lt59 w ↦
                       let is : w.unwrap-element.result.value ≡ v =
-                      MatchOption-at_some (1024 ≤ v) (λ n. n.value ≡ v) w.unwrap-element.result w.unwrap-element.ensures w.new.ensures in
+                      (MatchResult-at_ok (λ n. (n.value ≡ v) × (n ≡ element v)) (λ _. 1024 ≤ v) w.unwrap-element.result w.unwrap-element.ensures w.try_from.ensures).0 in
                       let room : length ws < 59 = omega (arith, h.count, w.if-self-lt59.true) in
                       ap (λ s. values (take (length (ws ++ (v ∷ []))) s.1.0)) w.self-is
                       ∙ ap (λ n. values (take (length (ws ++ (v ∷ []))) (set c.args.self.now.elements n w.unwrap-element.result))) h.count

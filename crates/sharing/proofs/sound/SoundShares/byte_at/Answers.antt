@@ -14,12 +14,12 @@ loop-i-preserved c =
 
 pub unwrap-requires : goal.unwrap-requires
 unwrap-requires c =
-    there c.args.self.now.length c.args.self.now.shares.now c.args.self.now.sound c.args.x c.args.j _ c.new-3.result c.interpolate.result
+    there c.args.self.now.length c.args.self.now.shares.now c.args.self.now.sound c.args.x c.args.j _ c.from-3.result c.interpolate.result
     (points_all c.args.j c.args.self.now.shares.now c.loop-i.i c.loop-i.points c.loop-i.auto.i-end c.loop-i-test.false c.loop-i.invariant.same)
     c.interpolate.ensures.lagrange
 
 pub returns : goal.returns
 returns c =
-    byte_is c.args.self.now.length c.args.self.now.shares.now c.args.self.now.sound c.args.x c.args.j _ c.new-3.result c.interpolate.result
+    byte_is c.args.self.now.length c.args.self.now.shares.now c.args.self.now.sound c.args.x c.args.j _ c.from-3.result c.interpolate.result
     (points_all c.args.j c.args.self.now.shares.now c.loop-i.i c.loop-i.points c.loop-i.auto.i-end c.loop-i-test.false c.loop-i.invariant.same)
-    c.interpolate.ensures.lagrange c.unwrap.result c.value.result c.new-3.ensures c.unwrap.ensures c.value.ensures
+    c.interpolate.ensures.lagrange c.unwrap.result c.into.result c.from-3.ensures.1 c.unwrap.ensures c.into.ensures

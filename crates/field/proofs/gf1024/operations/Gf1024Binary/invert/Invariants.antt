@@ -3,5 +3,5 @@ use Rattle.std.proofs.Common.{◌≡◌, ◌-◌, ◌<◌}
 use Rattle.field.specs.CarryLess.{times_squares}
 use Rattle.field.proofs.gf1024.operations.Gf1024Binary.invert.Given as goal
 
-abbrev pub invariant-loop-i : goal.invariant-loop-i
-invariant-loop-i l = (times_squares 10 9 9 l.a 1 ≡ times_squares 10 9 (9 - l._i) l.square l.power) × (l.square < 1024) × (l.power < 1024)
+abbrev pub invariant-loop : goal.invariant-loop
+invariant-loop l = (times_squares 10 9 9 l.a 1 ≡ times_squares 10 9 (9 - l.counter) l.square l.power) × (l.square < 1024) × (l.power < 1024)
