@@ -1,9 +1,8 @@
 //! Bytes as a command gives them: hexadecimal digits, or `-` for none; `*` and a count after them repeat them.
-ghost use Rattle.std.specs.Prelude.{◌≡◌, ◌≢◌, ◌==◌, [], None, Some, IfOk, codes, position};
+ghost use Rattle.std.specs.Prelude.{◌≡◌, ◌==◌, None, IfOk, position};
 ghost use Rattle.std.specs.Option.{option_map};
-ghost use Rattle.digests.specs.Data.{has_capital, bytes_in};
+ghost use Rattle.digests.specs.Data.{has_capital, bytes_in, plain_bytes};
 
-use hex::FromHexError;
 use std::alloc::{AllocError, Global};
 
 fn has_capital(digits: &[u8]) -> bool
@@ -19,17 +18,17 @@ fn unhex(heap: Global, digits: &[u8]) -> Result<Option<Vec<u8>>, AllocError>
     if has_capital(digits) {
         return Ok(None);
     }
-    match hex::decode(heap, digits) {
-        Ok(bytes) => Ok(Some(bytes)),
-        Err(FromHexError::OutOfMemory) => Err(AllocError),
-        Err(_) => Ok(None),
-    }
+    let mut bytes = Vec::from_elem(heap, 0, digits.len() / 2)?;
+    Ok(
+        hex::decode_to_slice(digits, bytes.as_mut_slice())
+            .ok()
+            .map(|()| bytes),
+    )
 }
 
 /// The bytes that a word of a command stands for.
 pub fn decode(heap: Global, word: &str) -> Result<Option<Vec<u8>>, AllocError>
-    ensures none { word.now ≡ codes "-" → IfOk result (λ bytes. option_map (λ v. v.items) bytes ≡ Some []) }
-    ensures digits { word.now ≢ codes "-" → position (λ b. b == 42) word.now ≡ None → IfOk result (λ bytes. option_map (λ v. v.items) bytes ≡ bytes_in word.now) }
+    ensures plain { position (λ b. b == 42) word.now ≡ None → IfOk result (λ bytes. option_map (λ v. v.items) bytes ≡ plain_bytes word.now) }
 {
     if word == "-" {
         return Ok(Some(Vec::new(heap)));
