@@ -15,6 +15,7 @@ use std::str::from_utf8;
 const LONGEST_TEXT: usize = 59 * 8 + 58;
 
 /// Two lowercase hexadecimal digits for each byte.
+#[tactic(auto, using(crate::proofs::HexValues::encoded))]
 pub fn hex(heap: Global, bytes: &[u8]) -> Result<String, AllocError>
     ensures { IfOk result (λ s. string_bytes s ≡ hex_of bytes.now) }
 {
