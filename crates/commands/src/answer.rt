@@ -22,7 +22,7 @@ pub fn hex(heap: Global, bytes: &[u8]) -> Result<String, AllocError>
     hex::encode(heap, bytes)
 }
 
-// The fields are put together in parts: the check does not prove the text of one format of nine fields.
+// In parts, since the check does not prove the text of one format of nine fields; a `Display` of each part would be a struct and an impl more.
 fn deal_fields(heap: Global, card: &Card) -> Result<String, AllocError>
     ensures { IfOk result (λ s. string_bytes s ≡ deal_fields (fields_of card.now)) }
 {
