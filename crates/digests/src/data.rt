@@ -19,11 +19,8 @@ fn unhex(heap: Global, digits: &[u8]) -> Result<Option<Vec<u8>>, AllocError>
         return Ok(None);
     }
     let mut bytes = Vec::from_elem(heap, 0, digits.len() / 2)?;
-    Ok(
-        hex::decode_to_slice(digits, bytes.as_mut_slice())
-            .ok()
-            .map(|()| bytes),
-    )
+    let read = hex::decode_to_slice(digits, bytes.as_mut_slice());
+    Ok(read.ok().map(|()| bytes))
 }
 
 /// The number below 2^32 that digits write.

@@ -14,7 +14,11 @@ other name command h = fails (bytes_eq name command) (λ e. h ((bytes_eq-Decides
 pub returns-in_default : goal.returns-in_default
 returns-in_default c =
     let name = c.args.words.name.now in
-    rw
-    (other name _ c.in_default.not-sha256, other name _ c.in_default.not-hmac, other name _ c.in_default.not-drill, other name _ c.in_default.not-text,
-    other name _ c.in_default.not-text-2)
+    rw (
+      other name _ c.in_default.not-sha256,
+      other name _ c.in_default.not-hmac,
+      other name _ c.in_default.not-drill,
+      other name _ c.in_default.not-text,
+      other name _ c.in_default.not-text-2,
+    )
     c.malformed.ensures
