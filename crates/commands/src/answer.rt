@@ -15,13 +15,14 @@ use std::str::from_utf8;
 const LONGEST_TEXT: usize = 59 * 8 + 58;
 
 /// Two lowercase hexadecimal digits for each byte.
+#[tactic(auto, using(crate::proofs::HexValues::encoded))]
 pub fn hex(heap: Global, bytes: &[u8]) -> Result<String, AllocError>
     ensures { IfOk result (λ s. string_bytes s ≡ hex_of bytes.now) }
 {
     hex::encode(heap, bytes)
 }
 
-// The fields are put together in parts: the check does not prove the text of one format of nine fields.
+// In parts, since the check does not prove the text of one format of nine fields; a `Display` of each part would be a struct and an impl more.
 fn deal_fields(heap: Global, card: &Card) -> Result<String, AllocError>
     ensures { IfOk result (λ s. string_bytes s ≡ deal_fields (fields_of card.now)) }
 {

@@ -22,6 +22,7 @@ fn decimal(text: &[u8]) -> Option<u16>
     if text.is_empty() {
         return None;
     }
+    // A loop, since the library has no lemma that says of a list what `try_fold` gives.
     let mut total: u16 = 0;
     for b in text {
         total = total.checked_mul(10)?.checked_add(digit(*b)?)?;
@@ -62,7 +63,7 @@ fn value(text: &[u8]) -> Option<Value>
 pub(crate) fn card_parts(line: &[u8]) -> Option<CardParts>
     ensures { option_map parts_of result ≡ fields_from (separated line.now) }
 {
-    // One after the other, since the borrow checker does not cover an `Option` of nine texts taken from `split`.
+    // Each `cut` states the texts that are left; with nine `next()?` of `split` no way out of the function is proved.
     let (identifier, rest) = cut(line);
     let (extendable, rest) = cut(rest?);
     let (exponent, rest) = cut(rest?);

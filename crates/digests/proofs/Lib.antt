@@ -1,1 +1,2 @@
 -- The lemmas of the program digests.
+mod Numbers

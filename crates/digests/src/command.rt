@@ -1,5 +1,9 @@
 //! The commands, one to a line.
-use crate::data::decode;
+ghost use Rattle.std.specs.Prelude.{◌≡◌, IfOk, string_bytes};
+ghost use Rattle.digests.specs.Data.{bytes_of};
+ghost use Rattle.digests.specs.Replies.{malformed_text, hash_text, digest_reply, digest_of_words, chain_reply, chain_of_words, answer_text};
+
+use crate::data::{count_in, decode, size_in};
 use crate::reply::reply;
 use digest::{DrillDigest, HmacSha256, KeyedDigest, sha256_of};
 use std::alloc::{AllocError, Global};
@@ -27,34 +31,70 @@ impl<'a> From<&'a str> for Words<'a> {
     }
 }
 
-fn malformed(heap: Global) -> Result<String, AllocError> {
+fn malformed(heap: Global) -> Result<String, AllocError>
+    ensures { IfOk result (λ s. string_bytes s ≡ malformed_text) }
+{
     String::from_str(heap, "malformed")
 }
 
 /// `sha256 MESSAGE`
-fn answer_hash(heap: Global, words: Words<'_>) -> Result<String, AllocError> {
+fn answer_hash(heap: Global, words: Words<'_>) -> Result<String, AllocError>
+    ensures { IfOk result (λ s. string_bytes s ≡ hash_text (bytes_of words.entry.number.now)) }
+{
     match decode(heap, words.number)? {
         Some(message) => hex::encode(heap, sha256_of(message.as_slice())),
         None => malformed(heap),
     }
 }
 
-/// `NAME SPACE KEY MESSAGE`, with a space of so many bytes, all of them ee before the call.
+/// The digest of a message in a space of so many bytes, all of them ee before the call.
+fn digest_reply<D: KeyedDigest>(
+    heap: Global,
+    digest: &D,
+    size: u16,
+    key: &[u8],
+    message: &[u8],
+) -> Result<String, AllocError>
+    ensures { IfOk result (λ s. string_bytes s ≡ digest_reply D.size D.keyed size key.now message.now) }
+{
+    let mut space = Vec::from_elem(heap, 0xee, size as usize)?;
+    let answer = digest.digest(key, message, space.as_mut_slice());
+    reply(heap, answer, space.as_slice())
+}
+
+/// `NAME SPACE KEY MESSAGE`
 fn answer_digest<D: KeyedDigest>(
     heap: Global,
     digest: &D,
     words: Words<'_>,
-) -> Result<String, AllocError> {
-    let (Ok(size), Some(key), Some(message)) = (
-        words.number.parse::<u16>(),
+) -> Result<String, AllocError>
+    ensures { IfOk result (λ s. string_bytes s ≡ digest_of_words D.size D.keyed words.entry) }
+{
+    let (Some(size), Some(key), Some(message)) = (
+        size_in(words.number),
         decode(heap, words.key)?,
         decode(heap, words.first)?,
     ) else {
         return malformed(heap);
     };
-    let mut space = Vec::from_elem(heap, 0xee, size as usize)?;
-    let answer = digest.digest(key.as_slice(), message.as_slice(), space.as_mut_slice());
-    reply(heap, answer, space.as_slice())
+    digest_reply(heap, digest, size, key.as_slice(), message.as_slice())
+}
+
+/// The last link of a chain, or the refusal, then the total.
+fn chain_reply<D: KeyedDigest>(
+    heap: Global,
+    digest: &D,
+    count: u32,
+    key: &[u8],
+    link: &mut [u8],
+    total: &mut [u8],
+) -> Result<String, AllocError>
+    ensures { IfOk result (λ s. string_bytes s ≡ chain_reply D.size D.keyed count key.now link.old total.old) }
+{
+    let answer = digest.chain(key, count, link, total);
+    let last = reply(heap, answer, link)?;
+    let sum = hex::encode(heap, total)?;
+    format!(in heap; "{last} {sum}")
 }
 
 /// `NAME-chain COUNT KEY LINK TOTAL`
@@ -62,30 +102,31 @@ fn answer_chain<D: KeyedDigest>(
     heap: Global,
     digest: &D,
     words: Words<'_>,
-) -> Result<String, AllocError> {
-    let (Ok(count), Some(key)) = (words.number.parse::<u32>(), decode(heap, words.key)?) else {
-        return malformed(heap);
-    };
-    let (Some(mut link), Some(mut total)) = (
+) -> Result<String, AllocError>
+    ensures { IfOk result (λ s. string_bytes s ≡ chain_of_words D.size D.keyed words.entry) }
+{
+    let (Some(count), Some(key), Some(mut link), Some(mut total)) = (
+        count_in(words.number),
+        decode(heap, words.key)?,
         decode(heap, words.first)?,
         decode(heap, words.second)?,
     ) else {
         return malformed(heap);
     };
-    let answer = digest.chain(
-        key.as_slice(),
+    chain_reply(
+        heap,
+        digest,
         count,
+        key.as_slice(),
         link.as_mut_slice(),
         total.as_mut_slice(),
-    );
-    let last = reply(heap, answer, link.as_slice())?;
-    let sum = hex::encode(heap, total.as_slice())?;
-    format!(in heap; "{last} {sum}")
+    )
 }
 
-/// The answer to a line.
-pub fn answer(heap: Global, line: &str) -> Result<String, AllocError> {
-    let words = Words::from(line);
+/// The answer to the words of a line.
+fn answer_words(heap: Global, words: Words<'_>) -> Result<String, AllocError>
+    ensures { IfOk result (λ s. string_bytes s ≡ answer_text words.entry) }
+{
     match words.name {
         "sha256" => answer_hash(heap, words),
         "hmac" => answer_digest(heap, &HmacSha256, words),
@@ -94,4 +135,9 @@ pub fn answer(heap: Global, line: &str) -> Result<String, AllocError> {
         "drill-chain" => answer_chain(heap, &DrillDigest, words),
         _ => malformed(heap),
     }
+}
+
+/// The answer to a line.
+pub fn answer(heap: Global, line: &str) -> Result<String, AllocError> {
+    answer_words(heap, Words::from(line))
 }

@@ -1,9 +1,8 @@
 //! Bytes as a command gives them: hexadecimal digits, or `-` for none; `*` and a count after them repeat them.
-ghost use Rattle.std.specs.Prelude.{◌≡◌, ◌≢◌, ◌==◌, [], None, Some, IfOk, codes, position};
+ghost use Rattle.std.specs.Prelude.{◌≡◌, IfOk};
 ghost use Rattle.std.specs.Option.{option_map};
-ghost use Rattle.digests.specs.Data.{has_capital, bytes_in};
+ghost use Rattle.digests.specs.Data.{has_capital, bytes_in, number_in, repeated, bytes_of};
 
-use hex::FromHexError;
 use std::alloc::{AllocError, Global};
 
 fn has_capital(digits: &[u8]) -> bool
@@ -19,26 +18,46 @@ fn unhex(heap: Global, digits: &[u8]) -> Result<Option<Vec<u8>>, AllocError>
     if has_capital(digits) {
         return Ok(None);
     }
-    match hex::decode(heap, digits) {
-        Ok(bytes) => Ok(Some(bytes)),
-        Err(FromHexError::OutOfMemory) => Err(AllocError),
-        Err(_) => Ok(None),
-    }
+    let mut bytes = Vec::from_elem(heap, 0, digits.len() / 2)?;
+    let read = hex::decode_to_slice(digits, bytes.as_mut_slice());
+    Ok(read.ok().map(|()| bytes))
+}
+
+/// The number below 2^32 that digits write.
+#[tactic(auto, using(crate::proofs::Numbers::parsed))]
+pub fn count_in(word: &str) -> Option<u32>
+    ensures { result ≡ number_in 32 word.now }
+{
+    word.parse::<u32>().ok()
+}
+
+/// The number below 2^16 that digits write.
+#[tactic(auto, using(crate::proofs::Numbers::parsed))]
+pub fn size_in(word: &str) -> Option<u16>
+    ensures { result ≡ number_in 16 word.now }
+{
+    word.parse::<u16>().ok()
+}
+
+/// The bytes that digits write, as often as a count says.
+fn repeated(heap: Global, digits: &[u8], count: &str) -> Result<Option<Vec<u8>>, AllocError>
+    ensures { IfOk result (λ bytes. option_map (λ v. v.items) bytes ≡ repeated (number_in 32 count.now) (bytes_in digits.now)) }
+{
+    let (Some(count), Some(bytes)) = (count_in(count), unhex(heap, digits)?) else {
+        return Ok(None);
+    };
+    Ok(Some(bytes.as_slice().repeat(heap, count as usize)?))
 }
 
 /// The bytes that a word of a command stands for.
 pub fn decode(heap: Global, word: &str) -> Result<Option<Vec<u8>>, AllocError>
-    ensures none { word.now ≡ codes "-" → IfOk result (λ bytes. option_map (λ v. v.items) bytes ≡ Some []) }
-    ensures digits { word.now ≢ codes "-" → position (λ b. b == 42) word.now ≡ None → IfOk result (λ bytes. option_map (λ v. v.items) bytes ≡ bytes_in word.now) }
+    ensures { IfOk result (λ bytes. option_map (λ v. v.items) bytes ≡ bytes_of word.now) }
 {
     if word == "-" {
         return Ok(Some(Vec::new(heap)));
     }
-    let Some((digits, count)) = word.split_once('*') else {
-        return unhex(heap, word.as_bytes());
-    };
-    let (Some(bytes), Ok(count)) = (unhex(heap, digits.as_bytes())?, count.parse::<u32>()) else {
-        return Ok(None);
-    };
-    Ok(Some(bytes.as_slice().repeat(heap, count as usize)?))
+    match word.split_once('*') {
+        Some((digits, count)) => repeated(heap, digits.as_bytes(), count),
+        None => unhex(heap, word.as_bytes()),
+    }
 }
