@@ -20,6 +20,7 @@ fn in_range(value: u16, least: u16, most: u16) -> Option<u16>
 }
 
 /// A number from `LEAST` to `MOST`.
+// A struct for each, and not one generic over a kind: an index in a struct of its own passes for no other.
 pub trait Number: Copy {
     const LEAST: u16;
 

@@ -74,6 +74,7 @@ fn header_words(card: &Card) -> Words
 {
     let number = header_number(card);
     let mut words = Words::none();
+    // From the high bits down: k tells how many tens of bits are left.
     for k in (0..4).rev() {
         words.push(ten_bits(number, 10 * k));
     }

@@ -2,6 +2,7 @@
 ghost use Rattle.std.specs.Prelude.{◌≡◌, ◌<◌, slice_index};
 ghost use Rattle.digest.specs.Sha256.{ch, maj, big_sigma0, big_sigma1, small_sigma0, small_sigma1, constants};
 
+// Four functions and not one with const parameters: the standard names and defines each.
 pub(crate) fn big_sigma_0(x: u32) -> u32
     ensures { result ≡ big_sigma0 x }
 {
