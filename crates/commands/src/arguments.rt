@@ -63,7 +63,7 @@ fn value(text: &[u8]) -> Option<Value>
 pub(crate) fn card_parts(line: &[u8]) -> Option<CardParts>
     ensures { option_map parts_of result ≡ fields_from (separated line.now) }
 {
-    // Each `cut` states the texts that are left; with nine `next()?` of `split` no way out of the function is proved.
+    // Each `cut` states the texts that are left; after nine `next()?` of `split` the ways out did not prove.
     let (identifier, rest) = cut(line);
     let (extendable, rest) = cut(rest?);
     let (exponent, rest) = cut(rest?);
