@@ -2,7 +2,7 @@
 use Rattle.std.specs.Prelude.{◌≡◌, ℕ, ◌+◌, ◌<◌, ◌≤◌, Bool, true, false, cond, ◌&&◌, T, List, [], ◌∷◌, length, take, Some, None, Option, ◌==◌, slice_index_or}
 use Rattle.std.specs.List.{AllByRecursion}
 use Rattle.std.specs.Option.{option_map}
-use Rattle.numbers.specs.declared.WordIndex.{WordIndex}
+use Rattle.numbers.specs.declared.word_index.WordIndex.{WordIndex}
 use Rattle.lexicon.specs.Letters.{is_letter}
 
 -- 1,024 words of four to eight bytes from a-z and 0-9, no two alike in their first four bytes

@@ -8,7 +8,7 @@ use Rattle.std.proofs.lemmas.List.FromFn.{length-map-range_with_len, get_or-map-
 use Rattle.std.proofs.lemmas.Bool.Decides.{nat_tests}
 use Rattle.std.proofs.lemmas.Bool.{cases_lt}
 use Rattle.std.proofs.lemmas.List.{take_all, take-take}
-use Rattle.numbers.specs.declared.WordIndex.{WordIndex}
+use Rattle.numbers.specs.declared.word_index.WordIndex.{WordIndex}
 use Rattle.lexicon.specs.Letters.{is_letter}
 use Rattle.lexicon.specs.Lexicon.{Lawful, begins_with, index_of, found as found_in}
 use Rattle.lexicon.specs.NumberWords.{digits, numbered}

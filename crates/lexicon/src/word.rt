@@ -15,6 +15,8 @@ impl Model for Word {
 
     ghost view = { λ w. w.bytes };
 
+    ghost invariant = { λ w. length w.bytes ≤ 8 };
+
     ghost inverse = { λ list. record { bytes = list } };
 }
 

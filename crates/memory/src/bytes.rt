@@ -5,6 +5,7 @@ ghost use Rattle.std.specs.Prelude.{◌≡◌, ℕ, ◌-◌, ◌≤◌, List, �
 use std::marker::Model;
 
 /// At most `N` bytes. Those past the count are zero, so that equal lists of bytes are equal values.
+// Not the kit's `ArrayVec`: it is not `Copy`, and a card is.
 #[derive(Clone, Copy, PartialEq, Eq, Debug)]
 pub struct Bytes<const N: usize> {
     array: [u8; N],

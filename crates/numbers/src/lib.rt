@@ -5,18 +5,16 @@ ghost use Rattle.std.specs.Prelude.{◌≡◌, ℕ, ◌^◌, ◌<◌, ◌≤◌,
 ghost use Rattle.std.proofs.Common.{rules};
 
 mod parameters;
+mod word_index;
 
 pub use parameters::Parameters;
+pub use word_index::WordIndex;
 
 /// The value, if it is in that range.
 fn in_range(value: u16, least: u16, most: u16) -> Option<u16>
     ensures { MatchOption result (least ≤ value → most < value) (λ n. (n ≡ value) × ((least ≤ n) × (n ≤ most))) }
 {
-    if least <= value && value <= most {
-        Some(value)
-    } else {
-        None
-    }
+    (least..=most).contains(&value).then_some(value)
 }
 
 /// A number from `LEAST` to `MOST`.
@@ -33,6 +31,7 @@ pub trait Number: Copy {
     ghost number: { Self → ℕ };
 
     /// The number with this value, if the value is in the range.
+    // A body each: one for all would have to make a Self without knowing its fields. No `TryFrom`, which has no such clause.
     fn new(value: u16) -> Option<Self>
         ensures { MatchOption result (LEAST ≤ value → MOST < value) (λ n. number n ≡ value) };
 
@@ -268,37 +267,5 @@ impl Number for GroupCount {
 
     fn get(self) -> u16 {
         u16::from(self.value)
-    }
-}
-
-/// A word's place in a lexicon, from 0.
-#[derive(Clone, Copy, PartialEq, Eq, Debug)]
-pub struct WordIndex {
-    pub value: u16,
-    ghost bound: { value < 1024 },
-}
-
-impl Number for WordIndex {
-    const LEAST: u16 = 0;
-
-    const MOST: u16 = 1023;
-
-    ghost LEAST = { 0 };
-
-    ghost MOST = { 1023 };
-
-    ghost number = { λ n. n.value };
-
-    ghost fits = { Prim.search rules };
-
-    ghost in_range = { Prim.search rules };
-
-    fn new(value: u16) -> Option<WordIndex> {
-        let value = in_range(value, Self::LEAST, Self::MOST)?;
-        Some(WordIndex { value })
-    }
-
-    fn get(self) -> u16 {
-        self.value
     }
 }

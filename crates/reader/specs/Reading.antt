@@ -1,6 +1,6 @@
 -- What a line says: the fields of a card, or the refusal that is due. The checks stand in the order in which they are made.
 use Rattle.std.specs.Prelude.{ℕ, zero, suc, ◌+◌, ◌-◌, ◌*◌, ◌/◌, ◌%◌, Bool, cond, not, ◌&&◌, ◌||◌, List, [], ◌∷◌, ◌++◌, length, Some, None, Ok, Err, Option, Result, ◌==◌, nat_le, nat_lt}
-use Rattle.numbers.specs.declared.WordIndex.{WordIndex}
+use Rattle.numbers.specs.declared.word_index.WordIndex.{WordIndex}
 use Rattle.refusal.specs.declared.Refusal.{Refusal}
 use Rattle.refusal.specs.declared.Refusal.TheVariants.{ForbiddenByte, NoSuchWord, WordCount, WrongChecksum, PaddingNotZero, GroupNumbers, MemberAtThresholdOne}
 use Rattle.reader.specs.declared.card.Card.{Card}
