@@ -17,14 +17,10 @@ fn digit(value: u16) -> u8
     b'0' + value as u8
 }
 
-// The library's `to_digit` takes a `char` and answers a `u32`, which would have to be narrowed again.
 fn digit_value(byte: u8) -> Option<u16>
     ensures { MatchOption result ((n : ℕ) → n < 10 → byte ≢ 48 + n) (λ n. (n < 10) × (byte ≡ 48 + n)) }
 {
-    match byte {
-        b'0'..=b'9' => Some(u16::from(byte - b'0')),
-        _ => None,
-    }
+    Some((byte as char).to_digit(10)? as u16)
 }
 
 /// The number that four digits write.
