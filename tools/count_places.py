@@ -27,10 +27,6 @@ def sources(commit):
         yield name, text
 
 
-FUNCTION = re.compile(r"^([ \t]*)(?:pub(?:\(\w+\))? )?(?:extern \"C\" )?fn (\w+)(.*?)^\1[{](.*?)^\1[}]", re.S | re.M)
-ONE_LINE = re.compile(r"^[ \t]*(?:pub(?:\(\w+\))? )?fn (\w+)([^\n]*)[{]\s*$", re.M)
-
-
 def functions(text):
     """Line, name, what stands before the body, and the body, of each function."""
     for m in re.finditer(r"^([ \t]*)(?:pub(?:\(\w+\))? )?(?:extern \"C\" )?fn (\w+)", text, re.M):
@@ -81,7 +77,7 @@ def places(commit):
                 found["3 a loop with an index beside the item"].append((here, line.strip()))
             elif re.search(r"^\s*(for|while) ", code):
                 found["3 a loop over items"].append((here, line.strip()))
-            if re.search(r"if \w+ == 0 \{$|match step", code) and "step" in code:
+            if re.search(r"\bif step == |\bmatch step\b", code):
                 found["7 a switch on the step"].append((here, line.strip()))
         for m in re.finditer(r"^ *(?:pub )?struct (\w+)[^;{]*\{(.*?)^ *\}", text, re.S | re.M):
             line = text.count("\n", 0, m.start()) + 1
