@@ -15,7 +15,7 @@ pub(crate) fn card(words: &Words) -> Result<Card, Refusal>
     let refusal = Refusal::WordCount { words: words.count };
     words
         .all()
-        .and_then(|all| CardWords::new(all))
+        .and_then(CardWords::new)
         .ok_or(refusal)?
         .card()
 }
