@@ -89,7 +89,7 @@ fn data_words(card: &Card) -> Words
     let mut words = header_words(card);
     let value = card.parts.value.bytes();
     let count = (8 * value.len()).div_ceil(10);
-    // The word at the value's start ends the most bits before its end.
+    // From the high bits down: k tells how many tens of bits are left.
     for k in (0..count).rev() {
         words.push(value_word(value, 10 * k));
     }
@@ -102,7 +102,7 @@ pub(crate) fn encode(card: &Card) -> Words
     ensures few { result.count ≤ 59 }
 {
     let mut words = data_words(card);
-    let check = check_words(card.parts.extendable, &words.elements[..words.count]);
+    let check = check_words(card.parts.extendable, words.all().unwrap());
     for element in check {
         words.push(index_of(element));
     }
