@@ -62,17 +62,24 @@ impl<'a> CardWords<'a> {
         10 * (self.words.len() - 7) % 16
     }
 
+    /// Fills `bytes` with those after the first `from` bits.
+    fn fill_bytes(&self, from: usize, bytes: &mut [u8])
+        requires { from + 8 * length bytes.old + 30 ≤ 10 * length self.now.words.now }
+        ensures { bytes.new ≡ bytes_at (values self.now.words.now) from (length bytes.old) }
+    {
+        for (k, byte) in bytes.iter_mut().enumerate() {
+            *byte = bits_at(self.words, from + 8 * k, 8) as u8;
+        }
+    }
+
     /// The first `count` bytes are those after the first `from` bits.
     fn bytes_at(&self, from: usize, count: usize) -> [u8; 64]
         requires room { (count ≤ 64) × (from ≤ 48) }
         requires inside { from + 8 * count + 30 ≤ 10 * length self.now.words.now }
         ensures { take count result ≡ bytes_at (values self.now.words.now) from count }
     {
-        // By its index: with `array::from_fn` the proof did not close, for what each call of the closure gave.
         let mut bytes = [0; 64];
-        for k in 0..count {
-            bytes[k] = bits_at(self.words, from + 8 * k, 8) as u8;
-        }
+        self.fill_bytes(from, &mut bytes[..count]);
         bytes
     }
 

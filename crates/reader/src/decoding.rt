@@ -13,6 +13,5 @@ pub(crate) fn card(words: &Words) -> Result<Card, Refusal>
     ensures { (ws : List ℕ) → Holds words.now ws → meant result ≡ card_in ws }
 {
     let refusal = Refusal::WordCount { words: words.count };
-    let all = words.all().ok_or(refusal)?;
-    CardWords::new(all).ok_or(refusal)?.card()
+    words.all().and_then(CardWords::new).ok_or(refusal)?.card()
 }

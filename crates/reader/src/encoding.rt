@@ -63,6 +63,7 @@ fn value_word(value: &[u8], after: usize) -> WordIndex
     WordIndex::new(((pair >> (6 - from % 8)) % 1024) as u16).unwrap()
 }
 
+// No `From`: both types are of other crates.
 pub(crate) fn index_of(element: Gf1024) -> WordIndex
     ensures { result.value ≡ element.value }
 {
@@ -74,9 +75,8 @@ fn header_words(card: &Card) -> Words
 {
     let number = header_number(card);
     let mut words = Words::none();
-    // From the high bits down: k tells how many tens of bits are left.
-    for k in (0..4).rev() {
-        words.push(ten_bits(number, 10 * k));
+    for after in [30, 20, 10, 0] {
+        words.push(ten_bits(number, after));
     }
     words
 }
@@ -88,7 +88,8 @@ fn data_words(card: &Card) -> Words
 {
     let mut words = header_words(card);
     let value = card.parts.value.bytes();
-    let count = (8 * value.len() + 9) / 10;
+    let count = (8 * value.len()).div_ceil(10);
+    // From the high bits down: k tells how many tens of bits are left.
     for k in (0..count).rev() {
         words.push(value_word(value, 10 * k));
     }
@@ -101,7 +102,7 @@ pub(crate) fn encode(card: &Card) -> Words
     ensures few { result.count ≤ 59 }
 {
     let mut words = data_words(card);
-    let check = check_words(card.parts.extendable, &words.elements[..words.count]);
+    let check = check_words(card.parts.extendable, words.all().unwrap());
     for element in check {
         words.push(index_of(element));
     }

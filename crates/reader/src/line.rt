@@ -40,7 +40,7 @@ impl Class {
 pub fn first_forbidden(line: &[u8]) -> Option<usize>
     ensures { result ≡ first_forbidden 0 line.now }
 {
-    // One `match` says both ways out; `take_while` and `position` would class each byte twice.
+    // A loop: of `map`, `take_while` and `position` together the check finds no proof.
     for (i, byte) in line.iter().enumerate() {
         match Class::of(*byte) {
             Class::Hash => return None,

@@ -12,11 +12,10 @@ pub returns : goal.returns
 returns c ws h =
     let list = c.args.words.now in
     let card = c.in_ok-ok_or.field-0 in
-    let same : card.words.now ≡ c.in_ok-all.all.now = search rules in
-    let kept : (length c.in_ok-all.all.now ≡ list.count) × (c.in_ok-all.all.now ≡ take list.count list.elements) = search rules in
-    let size : length card.words.now ≡ length ws = ap length same ∙ kept.0 ∙ h.count in
+    let same : (card.words.now ≡ take list.count list.elements) × (length card.words.now ≡ list.count) = search rules in
+    let size : length card.words.now ≡ length ws = same.1 ∙ h.count in
     let fits : count_fits (length ws) ≡ true = ap count_fits (sym size) ∙ card.fits in
     let most : length ws ≤ 59 = leb-true (length ws) 59 (and_parts (leb (length ws) 59) (leb (padding_bits (length ws)) 8) (and_parts (leb 20 (length ws)) _ fits).1).0 in
     let all : values card.words.now ≡ ws =
-    ap values (same ∙ kept.1) ∙ ap (λ m. values (take m list.elements)) h.count ∙ h.first ∙ take_all 59 ws most in
+    ap values same.0 ∙ ap (λ m. values (take m list.elements)) h.count ∙ h.first ∙ take_all 59 ws most in
     c.card.ensures ∙ ap checked_words all ∙ sym (passed (count_fits (length ws)) (WordCount (length ws)) (checked_words ws) fits)

@@ -1,5 +1,5 @@
 -- The check words after the others.
-use Rattle.std.proofs.Common.{◌≡◌, ◌+◌, ◌≤◌, List, [], ◌∷◌, ◌++◌, length, get_or, take, sym, ap, ◌∙◌, subst, append_assoc, append-nil, arith}
+use Rattle.std.proofs.Common.{rules, ◌≡◌, ◌+◌, ◌≤◌, List, [], ◌∷◌, ◌++◌, length, get_or, take, sym, ap, ◌∙◌, subst, append_assoc, append-nil, arith}
 use Rattle.std.proofs.lemmas.List.{take_all, take_more, length-map, map_push}
 use Rattle.field.specs.declared.gf1024.Gf1024.{Gf1024}
 use Rattle.checksum.specs.Values.{values}
@@ -13,13 +13,13 @@ use Rattle.checksum.proofs.CheckWords.{three-checks}
 use Rattle.reader.proofs.encoding.encode.Goals as goal
 
 -- the check words are those of all the data words
-checks : (f : Fields) (held : Words) (check : List Gf1024) → Holds held (data_words f) → held.count ≤ 56
-    → values check ≡ check_words_of (customization f.extendable ++ values (take held.count held.elements))
+checks : (f : Fields) (held : Words) (all check : List Gf1024) → Holds held (data_words f) → held.count ≤ 56
+    → all ≡ take held.count held.elements → values check ≡ check_words_of (customization f.extendable ++ values all)
     → (values check ≡ check_words_of (customization f.extendable ++ data_words f)) × (length check ≡ 3)
-checks f held check h few e =
+checks f held all check h few same e =
     let D = data_words f in
-    let front : values (take held.count held.elements) ≡ D =
-    ap (λ m. values (take m held.elements)) h.count ∙ h.first ∙ take_all 59 D (omega (arith, h.count)) in
+    let front : values all ≡ D =
+    ap values same ∙ ap (λ m. values (take m held.elements)) h.count ∙ h.first ∙ take_all 59 D (omega (arith, h.count)) in
     let is : values check ≡ check_words_of (customization f.extendable ++ D) = e ∙ ap (λ l. check_words_of (customization f.extendable ++ l)) front in
     (is, sym (length-map check (λ a. a.value)) ∙ ap length is ∙ three-checks f.extendable D (data_small f))
 
@@ -35,8 +35,9 @@ loop-element-preserved c =
     let held = c.data_words-words.ensures in
     let check = c.check_words-check.result in
     let i = c.loop-element.element-index in
+    let all : c.unwrap.result.now ≡ take c.data_words-words.result.count c.data_words-words.result.elements = search rules in
     let e = c.element-item.result in
-    let size = (checks f c.data_words-words.result check held.holds held.few c.check_words-check.ensures.value).1 in
+    let size = (checks f c.data_words-words.result c.unwrap.result.now check held.holds held.few all c.check_words-check.ensures.value).1 in
     let front = values (take i check) in
     let more : (D ++ front) ++ (c.index_of.result.value ∷ []) ≡ D ++ values (take (i + 1) check) =
     append_assoc D front (c.index_of.result.value ∷ [])
@@ -53,5 +54,6 @@ returns-clause-holds c =
     let held = c.data_words-words.ensures in
     let check = c.check_words-check.result in
     let i = c.loop-element.element-index in
-    let is = checks f c.data_words-words.result check held.holds held.few c.check_words-check.ensures.value in
+    let all : c.unwrap.result.now ≡ take c.data_words-words.result.count c.data_words-words.result.elements = search rules in
+    let is = checks f c.data_words-words.result c.unwrap.result.now check held.holds held.few all c.check_words-check.ensures.value in
     subst (Holds c.loop-element.words) (ap (λ l. D ++ l) (ap values (take_all i check (omega (arith, is.1))) ∙ is.0)) c.loop-element.invariant.0

@@ -1,8 +1,0 @@
--- The bytes so far are those that the words hold.
-use Rattle.std.proofs.Common.{◌≡◌, ℕ, ◌+◌, ◌*◌, ◌<◌, length, get_or}
-use Rattle.reader.specs.Bits.{bits_at}
-use Rattle.checksum.specs.Values.{values}
-use Rattle.reader.proofs.card_words.CardWords.bytes_at.Given as goal
-
-abbrev pub invariant-loop-k : goal.invariant-loop-k
-invariant-loop-k l = (length l.bytes ≡ 64) × ((j : ℕ) → j < l.k → get_or l.bytes j 0 ≡ bits_at (values l.self.words.now) (l.from + 8 * j) 8)
