@@ -24,13 +24,11 @@ pub fn stretch_for_c<D: KeyedDigest + Copy>(
     ensures answer { result ≡ applies round passphrase.now identifier exponent half.now out.old }
     ensures writes { out.new ≡ (if result then stretched D.keyed D.size round passphrase.now identifier extendable exponent half.now ++ drop (length half.now) out.old else out.old) }
 {
-    let Some(round) = RoundNumber::new(u16::from(round)) else {
-        return false;
-    };
-    let Some(identifier) = Identifier::new(identifier) else {
-        return false;
-    };
-    let Some(exponent) = Exponent::new(u16::from(exponent)) else {
+    let (Some(round), Some(identifier), Some(exponent)) = (
+        RoundNumber::new(u16::from(round)),
+        Identifier::new(identifier),
+        Exponent::new(u16::from(exponent)),
+    ) else {
         return false;
     };
     let parameters = Parameters {

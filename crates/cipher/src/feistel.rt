@@ -35,13 +35,15 @@ impl<F: RoundFunction> Setting<'_, '_, F> {
     {
         let half = mask.len();
         // The half and the passphrase are lawful, so nothing is refused.
-        let _ = self.function.apply(
-            round,
-            self.passphrase,
-            self.parameters,
-            &secret[half..],
-            mask,
-        );
+        self.function
+            .apply(
+                round,
+                self.passphrase,
+                self.parameters,
+                &secret[half..],
+                mask,
+            )
+            .unwrap();
         xor_into(&mut secret[..half], mask);
         secret.rotate_left(half);
     }

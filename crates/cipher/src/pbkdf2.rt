@@ -27,11 +27,11 @@ impl<D: KeyedDigest> Pbkdf2<'_, '_, D> {
         let end = text.len() - 4;
         text[end..].copy_from_slice(&number.to_be_bytes());
         // The input is short and the spaces are as long as a digest, so nothing is refused.
-        let _ = self.digest.digest(self.password, text, link);
+        self.digest.digest(self.password, text, link).unwrap();
         total.copy_from_slice(link);
-        let _ = self
-            .digest
-            .chain(self.password, self.count - 1, link, total);
+        self.digest
+            .chain(self.password, self.count - 1, link, total)
+            .unwrap();
     }
 
     // Fills `out` with the blocks one after the other, the last of them cut. The salt is in the text, which has four bytes after it.

@@ -13,6 +13,7 @@ use digest::{DrillDigest, HmacSha256};
 
 /// Stretching over HMAC-SHA-256 for a C caller: writes to the front of `out` and answers true; false, with nothing written,
 /// if a number is out of range or the input is refused.
+// Bare numbers and a `bool`, as C calls it; what C calls cannot be generic.
 #[unsafe(no_mangle)]
 pub extern "C" fn cipher_stretch_hmac_sha256(
     round: u8,
@@ -40,6 +41,7 @@ pub extern "C" fn cipher_stretch_hmac_sha256(
 
 /// Stretching over the drill digest for a C caller: writes to the front of `out` and answers true; false, with nothing written,
 /// if a number is out of range or the input is refused.
+// Bare numbers and a `bool`, as C calls it; what C calls cannot be generic.
 #[unsafe(no_mangle)]
 pub extern "C" fn cipher_stretch_drill(
     round: u8,

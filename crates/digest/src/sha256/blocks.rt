@@ -23,6 +23,7 @@ pub(crate) fn absorb(state: [u32; 8], bytes: &[u8]) -> [u32; 8]
     let (blocks, _) = bytes.as_chunks::<64>();
     let mut value = state;
     for block in blocks {
+        // A call's result cannot go straight to an array that the call takes: the borrow checker does not cover that.
         let next = compress::<0>(value, load(block));
         value = next;
     }

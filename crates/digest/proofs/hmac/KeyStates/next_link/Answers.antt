@@ -10,10 +10,10 @@ loop-step-preserved c =
     let outer : List ℕ = c.args.self.outer in
     let n : ℕ = c.loop-step.step in
     elim c.if-step-eq0.branch [
-      | then-step-eq0 w ↦ link_inner inner outer c.args.v c.loop-step.value c.digest_block.result c.compress-next.result c.if-step-eq0.state n
-          (omega (arith, w.if-step-eq0.true)) c.loop-step.invariant w.state-is c.digest_block.ensures c.compress-next.ensures
-      | else-step-eq0 w ↦ link_outer inner outer c.args.v c.loop-step.value c.digest_block.result c.compress-next.result c.if-step-eq0.state n
-          (omega (arith, w.if-step-eq0.false)) c.loop-step.invariant w.state-is c.digest_block.ensures c.compress-next.ensures
+      | then-step-eq0 w ↦ link_inner inner outer c.args.v c.loop-step.value c.digest_block.result c.compress-value.result c.if-step-eq0.state n
+          (omega (arith, w.if-step-eq0.true)) c.loop-step.invariant w.state-is c.digest_block.ensures c.compress-value.ensures
+      | else-step-eq0 w ↦ link_outer inner outer c.args.v c.loop-step.value c.digest_block.result c.compress-value.result c.if-step-eq0.state n
+          (omega (arith, w.if-step-eq0.false)) c.loop-step.invariant w.state-is c.digest_block.ensures c.compress-value.ensures
     ]
 
 pub returns : goal.returns
