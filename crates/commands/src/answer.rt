@@ -93,10 +93,9 @@ pub fn refused_line(heap: Global, refusal: Refusal) -> Result<String, AllocError
     ensures { IfOk result (λ s. string_bytes s ≡ refused_line refusal) }
 {
     format!(in heap;
-        "refused {} {} {}: {}",
+        "refused {} {} {}: {refusal}",
         refusal.number(),
         refusal.layer(),
         refusal.place(),
-        refusal.sentence(),
     )
 }

@@ -22,7 +22,7 @@ fn decimal(text: &[u8]) -> Option<u16>
     if text.is_empty() {
         return None;
     }
-    // A loop, since the library has no lemma that says of a list what `try_fold` gives.
+    // Not `parse`, which takes a leading `+`; and of `try_fold` the library has no lemma.
     let mut total: u16 = 0;
     for b in text {
         total = total.checked_mul(10)?.checked_add(digit(*b)?)?;

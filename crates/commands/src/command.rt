@@ -12,6 +12,7 @@ pub enum Verb {
 }
 
 /// What one line of the input asks for.
+// No `Option` and no `Result` in it: each case has a name that tells what the line asks for.
 #[derive(Clone, Copy)]
 pub enum Command<'a> {
     /// Nothing: the line is blank or a comment.

@@ -16,6 +16,7 @@ fn serve<L: Lexicon>(rt: &HostRuntime, lexicon: &L) -> io::Result<()> {
     let mut counts = Counts::new();
     // One buffer for all lines: `split` would leave a freed copy of each card's words.
     let mut line = Vec::new(heap);
+    // Counted, since an input may never end.
     for _ in 0..u64::MAX {
         line.clear();
         if input.read_until(b'\n', &mut line)? == 0 {
@@ -56,9 +57,9 @@ pub fn run(rt: &HostRuntime) -> io::Result<()> {
     let (Some(lexicon), Some(suite), None) = (args.next(), args.next(), args.next()) else {
         return usage(rt);
     };
-    let Some(_suite) = suite_named(suite.as_str()) else {
+    if suite_named(suite.as_str()).is_none() {
         return usage(rt);
-    };
+    }
     match lexicon_named(lexicon.as_str()) {
         LexiconChoice::Numbers => serve(rt, &NumberLexicon),
         LexiconChoice::WordFile(path) => serve_word_file(rt, path),

@@ -35,7 +35,7 @@ pub struct Answer {
 }
 
 /// How many commands ended in each way.
-#[derive(Clone, Copy)]
+#[derive(Clone, Copy, Default)]
 pub struct Counts {
     done: u64,
     refused: u64,
@@ -46,11 +46,7 @@ impl Counts {
     pub fn new() -> Counts
         ensures { result ≡ record { done = 0; refused = 0; errors = 0 } }
     {
-        Counts {
-            done: 0,
-            refused: 0,
-            errors: 0,
-        }
+        Counts::default()
     }
 
     /// Counts one command more.

@@ -3,6 +3,7 @@ ghost use Rattle.std.specs.Prelude.{◌≡◌};
 ghost use Rattle.commands.specs.Settings.{chosen, suite_of, lexicon_of};
 
 /// The words that cards are written in.
+// No `Option` of a path: neither case is absent, and each name tells what it means.
 #[derive(Clone, Copy)]
 pub enum LexiconChoice<'a> {
     /// The four digits of each index.

@@ -63,15 +63,15 @@ module _ (size : ℕ) (f : List ℕ → List ℕ → List ℕ) where
 
   -- the same of a command's words
   abbrev pub digest_of_words : Words → List ℕ
-  digest_of_words words = digest_text (number_in 16 words.number.now) (bytes_of words.key.now) (bytes_of words.first.now)
+  digest_of_words words = digest_text (number_in 16 words.first.now) (bytes_of words.second.now) (bytes_of words.third.now)
 
   abbrev pub chain_of_words : Words → List ℕ
-  chain_of_words words = chain_text (number_in 32 words.number.now) (bytes_of words.key.now) (bytes_of words.first.now) (bytes_of words.second.now)
+  chain_of_words words = chain_text (number_in 32 words.first.now) (bytes_of words.second.now) (bytes_of words.third.now) (bytes_of words.fourth.now)
 
 -- the answer to the words of a line
 abbrev pub answer_text : Words → List ℕ
 answer_text words =
-    cond (bytes_eq words.name.now (codes "sha256")) (hash_text (bytes_of words.number.now))
+    cond (bytes_eq words.name.now (codes "sha256")) (hash_text (bytes_of words.first.now))
     (cond (bytes_eq words.name.now (codes "hmac")) (digest_of_words 32 (hmac sha256) words)
     (cond (bytes_eq words.name.now (codes "drill")) (digest_of_words 4 drill_digest words)
     (cond (bytes_eq words.name.now (codes "hmac-chain")) (chain_of_words 32 (hmac sha256) words)

@@ -12,10 +12,10 @@ use std::alloc::{AllocError, Global};
 #[derive(Clone, Copy)]
 struct Words<'a> {
     name: &'a str,
-    number: &'a str,
-    key: &'a str,
     first: &'a str,
     second: &'a str,
+    third: &'a str,
+    fourth: &'a str,
 }
 
 impl<'a> From<&'a str> for Words<'a> {
@@ -23,10 +23,10 @@ impl<'a> From<&'a str> for Words<'a> {
         let mut words = line.split_whitespace();
         Words {
             name: words.next().unwrap_or("-"),
-            number: words.next().unwrap_or("-"),
-            key: words.next().unwrap_or("-"),
             first: words.next().unwrap_or("-"),
             second: words.next().unwrap_or("-"),
+            third: words.next().unwrap_or("-"),
+            fourth: words.next().unwrap_or("-"),
         }
     }
 }
@@ -39,9 +39,9 @@ fn malformed(heap: Global) -> Result<String, AllocError>
 
 /// `sha256 MESSAGE`
 fn answer_hash(heap: Global, words: Words<'_>) -> Result<String, AllocError>
-    ensures { IfOk result (λ s. string_bytes s ≡ hash_text (bytes_of words.entry.number.now)) }
+    ensures { IfOk result (λ s. string_bytes s ≡ hash_text (bytes_of words.entry.first.now)) }
 {
-    match decode(heap, words.number)? {
+    match decode(heap, words.first)? {
         Some(message) => hex::encode(heap, sha256_of(message.as_slice())),
         None => malformed(heap),
     }
@@ -57,7 +57,7 @@ fn digest_reply<D: KeyedDigest>(
 ) -> Result<String, AllocError>
     ensures { IfOk result (λ s. string_bytes s ≡ digest_reply D.size D.keyed size key.now message.now) }
 {
-    let mut space = Vec::from_elem(heap, 0xee, size as usize)?;
+    let mut space = Vec::from_elem(heap, 0xee, usize::from(size))?;
     let answer = digest.digest(key, message, space.as_mut_slice());
     reply(heap, answer, space.as_slice())
 }
@@ -71,9 +71,9 @@ fn answer_digest<D: KeyedDigest>(
     ensures { IfOk result (λ s. string_bytes s ≡ digest_of_words D.size D.keyed words.entry) }
 {
     let (Some(size), Some(key), Some(message)) = (
-        size_in(words.number),
-        decode(heap, words.key)?,
-        decode(heap, words.first)?,
+        size_in(words.first),
+        decode(heap, words.second)?,
+        decode(heap, words.third)?,
     ) else {
         return malformed(heap);
     };
@@ -106,10 +106,10 @@ fn answer_chain<D: KeyedDigest>(
     ensures { IfOk result (λ s. string_bytes s ≡ chain_of_words D.size D.keyed words.entry) }
 {
     let (Some(count), Some(key), Some(mut link), Some(mut total)) = (
-        count_in(words.number),
-        decode(heap, words.key)?,
-        decode(heap, words.first)?,
+        count_in(words.first),
         decode(heap, words.second)?,
+        decode(heap, words.third)?,
+        decode(heap, words.fourth)?,
     ) else {
         return malformed(heap);
     };

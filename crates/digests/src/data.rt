@@ -8,7 +8,7 @@ use std::alloc::{AllocError, Global};
 fn has_capital(digits: &[u8]) -> bool
     ensures { result ≡ has_capital digits.now }
 {
-    digits.iter().any(|b| b'A' <= *b && *b <= b'F')
+    digits.iter().any(|b| (b'A'..=b'F').contains(b))
 }
 
 /// The bytes that digits write. No letter is a capital here, though the library would take it.
@@ -24,6 +24,7 @@ fn unhex(heap: Global, digits: &[u8]) -> Result<Option<Vec<u8>>, AllocError>
 }
 
 /// The number below 2^32 that digits write.
+// Beside `size_in`, and not one function over both types: what `parse` promises of any type names no number of bits.
 #[tactic(auto, using(crate::proofs::Numbers::parsed))]
 pub fn count_in(word: &str) -> Option<u32>
     ensures { result ≡ number_in 32 word.now }

@@ -11,7 +11,7 @@ pub fn first_four<D: KeyedDigest>(digest: &D, key: &[u8], message: &[u8]) -> [u8
 {
     let mut space = [0; 64];
     // It refuses nothing: the input is short enough, and no digest has more than 64 bytes.
-    let _ = digest.digest(key, message, &mut space);
+    digest.digest(key, message, &mut space).unwrap();
     *space.first_chunk().unwrap()
 }
 
@@ -20,8 +20,7 @@ pub fn digest_fits<D: KeyedDigest>(digest: &D, value: &[u8], secret: &[u8]) -> b
     requires { (length value.now ≤ 64) × (length secret.now ≤ 64) }
     ensures { Decides result (Checked D.keyed (length value.now) value.now secret.now) }
 {
-    match value.split_first_chunk::<4>() {
-        Some((start, key)) => *start == first_four(digest, key, secret),
-        None => false,
-    }
+    value
+        .split_first_chunk::<4>()
+        .is_some_and(|(start, key)| *start == first_four(digest, key, secret))
 }

@@ -71,7 +71,7 @@ fn check_lengths(
     if drawn.len() != drawn_length {
         return Err(NotDealt::DrawnLength);
     }
-    // One value alone is written there, but what was refused stays refused.
+    // Only n bytes are used; the interface asks for t times n.
     if work.len() < t * n {
         return Err(NotDealt::WorkTooShort);
     }

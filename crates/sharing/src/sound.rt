@@ -90,8 +90,7 @@ impl<'s, 'a> SoundShares<'s, 'a> {
         requires { j < self.now.length }
         ensures { result ≡ byte_through (plain self.now.shares.now) x j }
     {
-        // An array, since the points hold bytes of secrets, filled by place: the library says nothing of what
-        // `iter_mut().zip(..)` leaves.
+        // An array, for bytes of secrets; filled by place, since the library says nothing of what `iter_mut().zip(..)` leaves.
         let mut points = [Point {
             x: Gf256::from(0),
             y: Gf256::from(0),
