@@ -110,6 +110,7 @@ pub fn encrypt<F: RoundFunction>(
 
 /// Decrypts the secret in place, and answers how many bytes it has.
 /// A length that is odd or not 16 to 64 is refused first, then the passphrase; a refusal leaves the secret as it was.
+// A function beside `encrypt`, since each has clauses of its own; their one body is `replace`.
 #[tactic(auto, using(crate::proofs::Inverse::undone), unfolding(crate::specs::Feistel::network))]
 pub fn decrypt<F: RoundFunction>(
     function: &F,

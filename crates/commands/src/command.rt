@@ -41,6 +41,7 @@ fn is_comment(line: &[u8]) -> bool
 }
 
 /// The command of this name, if there is one.
+// Not `TryFrom`: there is nothing to say of a name that there is not.
 fn verb_named(name: &[u8]) -> Option<Verb>
     ensures { result ≡ verb_of name.now }
 {

@@ -32,6 +32,7 @@ pub fn lexicon_named(name: &str) -> LexiconChoice<'_>
 }
 
 /// The suite that the second argument names.
+// Not `FromStr`: there is nothing to say of a name that there is not.
 pub fn suite_named(name: &str) -> Option<Suite>
     ensures { result ≡ suite_of name.now }
 {

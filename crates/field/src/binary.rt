@@ -16,6 +16,7 @@ pub trait Binary: Copy {
     ghost bits: { Self → ℕ };
 
     /// The element with these bits.
+    // Not `From`, which has no `requires`.
     fn from_bits(value: u16) -> Self
         requires { value < 2 ^ degree }
         ensures { bits result ≡ value };

@@ -32,6 +32,7 @@ impl<'a> CardWords<'a> {
     pub(crate) fn new(words: &'a [Gf1024]) -> Option<CardWords<'a>>
         ensures { MatchOption result (count_fits (length words.now) ≡ false) (λ card. card.words.now ≡ words.now) }
     {
+        // Not `then`: what a closure makes would have to prove its ghost field without the test.
         if count_fits(words.len()) {
             Some(CardWords { words })
         } else {

@@ -24,6 +24,7 @@ pub enum Class {
 }
 
 impl Class {
+    // Not `From`: a byte is judged here, and not converted.
     pub fn of(byte: u8) -> Class
         ensures { result ≡ class_of byte }
     {

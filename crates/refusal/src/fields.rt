@@ -37,6 +37,7 @@ pub enum PlanField {
 }
 
 impl PlanField {
+    // By `match`, since one case holds a number.
     pub(crate) fn place(self) -> usize
         ensures { result ≡ plan_place self }
     {

@@ -68,6 +68,8 @@ pub enum Refusal {
 }
 
 impl Refusal {
+    // Tables by `match`, row for row as their definitions.
+
     /// The number of the refusal, which never changes.
     pub fn number(self) -> u8
         ensures { result ≡ number_of self }

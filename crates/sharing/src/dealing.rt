@@ -53,6 +53,7 @@ fn fixing_shares<'a>(
     shares
 }
 
+// Threshold, secret and drawn bytes go through loose: a struct of them would be taken apart again in each body.
 fn check_lengths(
     t: usize,
     secret: &[u8],
