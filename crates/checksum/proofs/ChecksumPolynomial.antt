@@ -1,5 +1,5 @@
 -- The polynomial of a card, and its value by Horner's rule.
-use Rattle.std.proofs.Common.{◌≡◌, ℕ, Bool, List, [], ◌∷◌, ◌++◌, map, sym, refl, ap, ◌∙◌, ap₂}
+use Rattle.std.proofs.Common.{◌≡◌, ℕ, ◌+◌, ◌<◌, Bool, List, [], ◌∷◌, ◌++◌, map, length, get_or, drop, sym, refl, ap, ◌∙◌, ap₂, add-one, drop-cons}
 use Rattle.std.specs.List.{fold}
 use Rattle.std.proofs.lemmas.List.{map-append}
 use Rattle.std.proofs.lemmas.List.Sums.{fold-append}
@@ -36,6 +36,9 @@ val-words x extendable ns =
 pub words-value : (x : Gf1024) (extendable : Bool) (ws : List Gf1024)
     → val x (coefficients extendable (values ws)) ≡ at x (at x (element 1) (front extendable)) ws
 words-value x extendable ws = val-words x extendable (values ws) ∙ ap (at x (at x (element 1) (front extendable))) (elements-values ws)
+
+pub next_number : (l : List ℕ) (i : ℕ) → i < length l → drop i l ≡ get_or l i 0 ∷ drop (i + 1) l
+next_number l i h = drop-cons l i 0 h ∙ ap (λ n. get_or l i 0 ∷ drop n l) (sym (add-one i))
 
 -- byte by byte
 pub bytes_value : (x v : Gf1024) (ns : List ℕ) → fold (λ v n. val x (v ∷ element n ∷ [])) v ns ≡ at x v (map element ns)

@@ -27,6 +27,10 @@ divided-append p q r [] ds u v w e = ap (λ l. onwards l ds) e
 divided-append p q r (c ∷ cs) ds u v w e =
     divided-append (sum q (product p (element 14))) (sum r (product p (element 56))) (sum c (product p (element 64))) cs ds u v w e
 
+-- one step more
+pub one-step : (p q r c : Gf1024) (cs : List Gf1024) (u v w : Gf1024) → u ∷ v ∷ w ∷ [] ≡ remainder_of (p ∷ q ∷ r ∷ c ∷ []) → divided p q r (c ∷ cs) ≡ divided u v w cs
+one-step p q r c cs u v w e = sym (divided-append p q r (c ∷ []) cs u v w (e ∙ remainder-divided p q r (c ∷ [])))
+
 -- one coefficient more
 pub one_more : (p q r c : Gf1024) (cs : List Gf1024) (a b : Remainder) → left a ≡ divided p q r cs → left b ≡ remainder_of (left a ++ (c ∷ []))
     → left b ≡ divided p q r (cs ++ (c ∷ []))

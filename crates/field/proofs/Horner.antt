@@ -10,6 +10,11 @@ use Rattle.field.proofs.FieldRing as Ring
 abbrev pub after : {F : Type 0} → (F → F → F) → (F → F → F) → F → F → List F → F
 after sum product x = fold (λ value c. sum c (product x value))
 
+-- one coefficient more, from the product and the sum
+pub after-step : {F : Type 0} (sum product : F → F → F) (x value c times plus : F) (cs : List F) → times ≡ product x value → plus ≡ sum c times
+    → after sum product x value (c ∷ cs) ≡ after sum product x plus cs
+after-step sum product x value c times plus cs t p = ap (λ y. after sum product x y cs) (sym (p ∙ ap (sum c) t))
+
 module _ {F : Type 0} {zeroF one : F} {◌⊕◌ ◌⊗◌ : F → F → F} {inverse : F → Option F} (law : Laws zeroF one ◌⊕◌ ◌⊗◌ inverse) where
   infixl 60 ◌⊕◌
   infixl 70 ◌⊗◌

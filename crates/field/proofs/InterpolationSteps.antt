@@ -1,8 +1,8 @@
 -- The steps of the interpolation: one quotient more, one point more.
-use Rattle.std.proofs.Common.{◌≡◌, ℕ, ◌+◌, ◌<◌, ◌≤◌, List, [], ◌∷◌, ◌++◌, length, get_or, take, drop, Some, None, Option, sym, ap, ◌∙◌, subst, ap₂}
+use Rattle.std.proofs.Common.{◌≡◌, ℕ, ◌+◌, ◌<◌, ◌≤◌, List, [], ◌∷◌, ◌++◌, length, get_or, take, drop, Some, None, Option, sym, refl, ap, ◌∙◌, subst, ap₂}
 use Rattle.std.specs.List.{AllByRecursion}
 use Rattle.std.proofs.ByRecursion.{All-append}
-use Rattle.std.proofs.lemmas.List.{take-append-drop, take_more, map-append}
+use Rattle.std.proofs.lemmas.List.{take-append-drop, take_all, take_more, map-append}
 use Rattle.field.specs.Laws.{Laws}
 use Rattle.field.specs.declared.interpolation.point.Point.{Point}
 use Rattle.field.specs.Interpolation.{Absent, Distinct, TimesQuotients, xs_of, value_or, quotients, lagrange_after, Interpolated, OnePolynomial}
@@ -33,6 +33,10 @@ xs_drop l i p h e = ap xs_of (item-next l i p h e)
 all-around : {A : Type 0} (P : A → Type 0) (front : List A) (x : A) (rest : List A) → AllByRecursion P (front ++ (x ∷ rest)) → P x
 all-around P [] x rest all = all.0
 all-around P (y ∷ front) x rest all = all-around P front x rest all.1
+
+all_left : {A : Type 0} (P : A → Type 0) (front rest : List A) → AllByRecursion P (front ++ rest) → AllByRecursion P front
+all_left P [] rest all = tt
+all_left P (y ∷ front) rest all = (all.0, all_left P front rest all.1)
 
 distinct_around : {A : Type 0} (front : List A) (x : A) (rest : List A) → Distinct (front ++ (x ∷ rest))
     → Absent x front × Absent x rest
@@ -88,6 +92,14 @@ module _ {F : Type 0} {zeroF one : F} {◌⊕◌ ◌⊗◌ : F → F → F} {inv
         (All-append (λ xj. xj ≡ xi → ⊥) (xs_of (take i l)) (p.x ∷ []) inv.1 (a-divisor xi p.x d some, tt)),
   )
 
+  pub quotients-all : (xi start result : F) (l : List (Point F)) (i : ℕ) → i ≤ length l → length l ≤ i
+      → ((result ⊗ Q xi (xs_of (drop i l))) ≡ (start ⊗ Q xi (xs_of l))) × AllByRecursion (λ xj. xj ≡ xi → ⊥) (xs_of (take i l))
+      → AllByRecursion (λ xj. xj ≡ xi → ⊥) (xs_of l) × (result ≡ (start ⊗ Q xi (xs_of l)))
+  quotients-all xi start result l i h k inv = (
+    subst (λ m. AllByRecursion (λ xj. xj ≡ xi → ⊥) (xs_of m)) (take_all i l k) inv.1,
+    sym (law.product_one result) ∙ ap (λ m. result ⊗ Q xi (xs_of m)) (sym (finished l i h k)) ∙ inv.0,
+  )
+
   -- ---- one point more
   Q-append : (xi : F) (xs ys : List F) → Q xi (xs ++ ys) ≡ (Q xi xs ⊗ Q xi ys)
   Q-append xi [] ys = sym (law.product_comm one (Q xi ys) ∙ law.product_one (Q xi ys))
@@ -95,22 +107,32 @@ module _ {F : Type 0} {zeroF one : F} {◌⊕◌ ◌⊗◌ : F → F → F} {inv
       ap (λ y. ((x ⊕ xj) ⊗ value_or zeroF (inverse (xi ⊕ xj))) ⊗ y) (Q-append xi xs ys)
       ∙ sym (law.product_assoc _ (Q xi xs) (Q xi ys))
 
+  -- from lists that are the points before it and the points after it
+  pub point_between : (total next before term : F) (l front rest : List (Point F)) (i : ℕ) (p : Point F) → i < length l → p ≡ get_or l i p
+      → front ≡ take i l → rest ≡ drop (i + 1) l
+      → AllByRecursion (λ xj. xj ≡ p.x → ⊥) (xs_of rest)
+      → before ≡ (p.y ⊗ Q p.x (xs_of front)) → term ≡ (before ⊗ Q p.x (xs_of rest)) → next ≡ (total ⊕ term)
+      → ((total ⊕ L (xs_of (take i l)) (drop i l)) ≡ L [] l) × (Distinct (xs_of (drop i l)) → Distinct (xs_of l))
+      → ((next ⊕ L (xs_of (take (i + 1) l)) (drop (i + 1) l)) ≡ L [] l) × (Distinct (xs_of (drop (i + 1) l)) → Distinct (xs_of l))
+  point_between total next before term l front rest i p h e is_front is-rest far is-before is-term is-next inv =
+      let fs = xs_of (take i l) in
+      let rs = xs_of (drop (i + 1) l) in
+      let whole : term ≡ (p.y ⊗ Q p.x (fs ++ rs)) =
+      is-term ∙ ap (λ y. y ⊗ Q p.x (xs_of rest)) is-before ∙ law.product_assoc p.y (Q p.x (xs_of front)) (Q p.x (xs_of rest))
+      ∙ ap₂ (λ a b. p.y ⊗ (Q p.x (xs_of a) ⊗ Q p.x (xs_of b))) is_front is-rest
+      ∙ ap (λ y. p.y ⊗ y) (sym (Q-append p.x fs rs)) in (
+        ap₂ (λ a xs. a ⊕ L xs (drop (i + 1) l)) (is-next ∙ ap (λ y. total ⊕ y) whole) (xs_take l i p h e)
+            ∙ law.sum_assoc total _ (L (fs ++ (p.x ∷ [])) (drop (i + 1) l))
+            ∙ ap (λ m. total ⊕ L fs m) (sym (item-next l i p h e)) ∙ inv.0,
+        λ d. inv.1 (subst Distinct (sym (xs_drop l i p h e)) (subst (λ m. AllByRecursion (λ xj. xj ≡ p.x → ⊥) (xs_of m)) is-rest far, d)),
+      )
+
   pub point_more : (total next before term : F) (l : List (Point F)) (i : ℕ) (p : Point F) → i < length l → p ≡ get_or l i p
       → Absent p.x (xs_of (drop (i + 1) l))
       → before ≡ (p.y ⊗ Q p.x (xs_of (take i l))) → term ≡ (before ⊗ Q p.x (xs_of (drop (i + 1) l))) → next ≡ (total ⊕ term)
       → ((total ⊕ L (xs_of (take i l)) (drop i l)) ≡ L [] l) × (Distinct (xs_of (drop i l)) → Distinct (xs_of l))
       → ((next ⊕ L (xs_of (take (i + 1) l)) (drop (i + 1) l)) ≡ L [] l) × (Distinct (xs_of (drop (i + 1) l)) → Distinct (xs_of l))
-  point_more total next before term l i p h e far is-before is-term is-next inv =
-      let fs = xs_of (take i l) in
-      let rs = xs_of (drop (i + 1) l) in
-      let whole : term ≡ (p.y ⊗ Q p.x (fs ++ rs)) =
-      is-term ∙ ap (λ y. y ⊗ Q p.x rs) is-before ∙ law.product_assoc p.y (Q p.x fs) (Q p.x rs)
-      ∙ ap (λ y. p.y ⊗ y) (sym (Q-append p.x fs rs)) in (
-        ap₂ (λ a xs. a ⊕ L xs (drop (i + 1) l)) (is-next ∙ ap (λ y. total ⊕ y) whole) (xs_take l i p h e)
-            ∙ law.sum_assoc total _ (L (fs ++ (p.x ∷ [])) (drop (i + 1) l))
-            ∙ ap (λ m. total ⊕ L fs m) (sym (item-next l i p h e)) ∙ inv.0,
-        λ d. inv.1 (subst Distinct (sym (xs_drop l i p h e)) (far, d)),
-      )
+  point_more total next before term l i p h e = point_between total next before term l (take i l) (drop (i + 1) l) i p h e refl refl
 
   pub points_all : (total : F) (l : List (Point F)) (i : ℕ) → i ≤ length l → length l ≤ i
       → ((total ⊕ L (xs_of (take i l)) (drop i l)) ≡ L [] l) × (Distinct (xs_of (drop i l)) → Distinct (xs_of l))
@@ -120,15 +142,29 @@ module _ {F : Type 0} {zeroF one : F} {◌⊕◌ ◌⊗◌ : F → F → F} {inv
     sym (law.sum_zero total) ∙ ap (λ m. total ⊕ L (xs_of (take i l)) m) (sym (finished l i h k)) ∙ inv.0,
   )
 
+  pub points_start : (total : F) (l : List (Point F)) → total ≡ zeroF → (total ⊕ L [] l) ≡ L [] l
+  points_start total l e = ap (λ y. y ⊕ L [] l) e ∙ Ring.zero_sum law (L [] l)
+
+  -- of a list that is the points before it, and of one that is the points after it
+  pub not_in_front : (l front : List (Point F)) (i : ℕ) (p : Point F) → i < length l → p ≡ get_or l i p → front ≡ take i l
+      → (AllByRecursion (λ xj. xj ≡ p.x → ⊥) (xs_of front) → ⊥) → Distinct (xs_of l) → ⊥
+  not_in_front l front i p h e is none d =
+      none (subst (λ m. AllByRecursion (λ xj. xj ≡ p.x → ⊥) (xs_of m)) (sym is)
+      (distinct_around (xs_of (take i l)) p.x (xs_of (drop (i + 1) l)) (subst Distinct (xs_split l i p h e) d)).0)
+
+  pub not_in_rest : (l rest : List (Point F)) (i : ℕ) (p : Point F) → i < length l → p ≡ get_or l i p → rest ≡ drop (i + 1) l
+      → (AllByRecursion (λ xj. xj ≡ p.x → ⊥) (xs_of rest) → ⊥) → Distinct (xs_of l) → ⊥
+  not_in_rest l rest i p h e is none d =
+      none (subst (λ m. AllByRecursion (λ xj. xj ≡ p.x → ⊥) (xs_of m)) (sym is)
+      (distinct_around (xs_of (take i l)) p.x (xs_of (drop (i + 1) l)) (subst Distinct (xs_split l i p h e) d)).1)
+
   pub not_before : (l : List (Point F)) (i : ℕ) (p : Point F) → i < length l → p ≡ get_or l i p
       → (Absent p.x (xs_of (take i l)) → ⊥) → Distinct (xs_of l) → ⊥
-  not_before l i p h e none d =
-      none (distinct_around (xs_of (take i l)) p.x (xs_of (drop (i + 1) l)) (subst Distinct (xs_split l i p h e) d)).0
+  not_before l i p h e = not_in_front l (take i l) i p h e refl
 
   pub not_after : (l : List (Point F)) (i : ℕ) (p : Point F) → i < length l → p ≡ get_or l i p
       → (Absent p.x (xs_of (drop (i + 1) l)) → ⊥) → Distinct (xs_of l) → ⊥
-  not_after l i p h e none d =
-      none (distinct_around (xs_of (take i l)) p.x (xs_of (drop (i + 1) l)) (subst Distinct (xs_split l i p h e) d)).1
+  not_after l i p h e = not_in_rest l (drop (i + 1) l) i p h e refl
 
   pub absent : (l : List (Point F)) (r : Option F) → r ≡ None → (Distinct (xs_of l) → ⊥) → Interpolated zeroF one ◌⊕◌ ◌⊗◌ inverse x l r
   absent l None is none = none

@@ -58,6 +58,9 @@ module _ {F : Type 0} {zeroF one : F} {◌⊕◌ ◌⊗◌ : F → F → F} {inv
   over-right : (a : F) → (a ≡ zeroF → ⊥) → (a ⊗ over a) ≡ one
   over-right a other = let i = law.inverse_other a other in ap (λ y. a ⊗ y) (ap (value_or zeroF) i.1.0) ∙ i.1.1
 
+  one-times : (a : F) → (one ⊗ a) ≡ a
+  one-times a = law.product_comm one a ∙ law.product_one a
+
   -- ---- the products at the points
   Q-zero : (x xi : F) (xs : List F) → In x xs → Q x xi xs ≡ zeroF
   Q-zero x xi [] i = elim i [ ]

@@ -34,11 +34,15 @@ product d r element bits a b = element (product_modulo d r (bits a) (bits b))
 abbrev pub inverse : {F : Type 0} → ℕ → ℕ → (ℕ → F) → (F → ℕ) → F → Option F
 inverse d r element bits a = cond (bits a == 0) None (Some (element (inverted d r (bits a))))
 
--- the elements are these numbers, r has a degree below d, and each number but 0 has an inverse
-pub record IsRepresented {F : Type 0} (d r : ℕ) (element : ℕ → F) (bits : F → ℕ) : Type 0 where
+-- the elements are these numbers, r has a degree below d, and each number but 0 has an inverse, its power by k squares
+pub record IsRepresentedBySquares {F : Type 0} (d r k : ℕ) (element : ℕ → F) (bits : F → ℕ) : Type 0 where
   pub rest-lt : r < 2 ^ d
   pub one-lt : 1 < 2 ^ d
   pub bits-lt : (a : F) → bits a < 2 ^ d
   pub bits-element : (n : ℕ) → n < 2 ^ d → bits (element n) ≡ n
   pub element-bits : (a : F) → element (bits a) ≡ a
-  pub times-inverted : (a : ℕ) → a < 2 ^ d → (a == 0) ≡ false → product_modulo d r a (inverted d r a) ≡ 1
+  pub times-inverted : (a : ℕ) → a < 2 ^ d → (a == 0) ≡ false → product_modulo d r a (times_squares d r k a 1) ≡ 1
+
+-- the elements are these numbers, r has a degree below d, and each number but 0 has an inverse
+abbrev pub IsRepresented : {F : Type 0} → ℕ → ℕ → (ℕ → F) → (F → ℕ) → Type 0
+IsRepresented d r element bits = IsRepresentedBySquares d r (d - 1) element bits

@@ -5,7 +5,7 @@ use Rattle.std.proofs.lemmas.Bool.{eqb-true, agree_below, agree_below_at}
 use Rattle.std.specs.Int.Bits.{xor_assoc, xor_self, xor_zero_r}
 use Rattle.std.proofs.lemmas.Nat.{xor_comm, xor_lt}
 use Rattle.field.specs.CarryLess as Numbers
-use Rattle.field.specs.CarryLess.{product_modulo, product_by, times_squares, IsRepresented}
+use Rattle.field.specs.CarryLess.{product_modulo, product_by, times_squares, IsRepresentedBySquares}
 use Rattle.field.specs.Laws.{Laws}
 use Rattle.field.specs.CarryLessRing as Ring
 
@@ -15,27 +15,37 @@ times_squares-lt d r hr zero a p h = h
 times_squares-lt d r hr (suc k) a p h =
     times_squares-lt d r hr k (product_modulo d r a a) (product_modulo d r p (product_modulo d r a a)) (Ring.product_lt d r hr d p (product_modulo d r a a) h)
 
+-- a number other than 0 times its power by k squares is 1, as a test
+unfoldable pub inverts_by_squares : ℕ → ℕ → ℕ → ℕ → Bool
+inverts_by_squares d r k a = cond (a == 0) true (product_modulo d r a (times_squares d r k a 1) == 1)
+
 -- a number other than 0 times its inverse is 1, as a test
 unfoldable pub inverts : ℕ → ℕ → ℕ → Bool
-inverts d r a = cond (a == 0) true (product_modulo d r a (Numbers.inverted d r a) == 1)
+inverts d r = inverts_by_squares d r (d - 1)
+
+pub times_by_squares : (d r k : ℕ) → agree_below (inverts_by_squares d r k) (λ _. true) (2 ^ d) ≡ true → (a : ℕ) → a < 2 ^ d → (a == 0) ≡ false
+    → product_modulo d r a (times_squares d r k a 1) ≡ 1
+unfolding inverts_by_squares
+times_by_squares d r k all-invert a h z =
+    let times : ℕ = product_modulo d r a (times_squares d r k a 1) in
+    eqb-true times 1 (subst (λ b. cond b true (times == 1) ≡ true) z (agree_below_at (inverts_by_squares d r k) (λ _. true) (2 ^ d) a all-invert h))
 
 pub times-inverted : (d r : ℕ) → agree_below (inverts d r) (λ _. true) (2 ^ d) ≡ true → (a : ℕ) → a < 2 ^ d → (a == 0) ≡ false
     → product_modulo d r a (Numbers.inverted d r a) ≡ 1
 unfolding inverts
-times-inverted d r all-invert a h z =
-    let times : ℕ = product_modulo d r a (Numbers.inverted d r a) in
-    eqb-true times 1 (subst (λ b. cond b true (times == 1) ≡ true) z (agree_below_at (inverts d r) (λ _. true) (2 ^ d) a all-invert h))
+times-inverted d r = times_by_squares d r (d - 1)
 
 times-one : (d r a : ℕ) → 1 < 2 ^ d → product_modulo d r a 1 ≡ a
 times-one zero r a h = absurd (not-suc-le-zero (le_of_suc-le-suc h))
 times-one (suc e) r a h = Ring.product_one (suc e) r e a
 
-module _ {F : Type 0} {d r : ℕ} {element : ℕ → F} {bits : F → ℕ} (law : IsRepresented d r element bits) where
+-- for inverses by any number of squares
+module _ {F : Type 0} {d r k : ℕ} {element : ℕ → F} {bits : F → ℕ} (law : IsRepresentedBySquares d r k element bits) where
   abbrev times : ℕ → ℕ → ℕ
   times = product_modulo d r
 
   abbrev inverted : ℕ → ℕ
-  inverted = Numbers.inverted d r
+  inverted a = times_squares d r k a 1
 
   abbrev sum : F → F → F
   sum = Numbers.sum element bits
@@ -44,7 +54,7 @@ module _ {F : Type 0} {d r : ℕ} {element : ℕ → F} {bits : F → ℕ} (law 
   product = Numbers.product d r element bits
 
   abbrev inverse : F → Option F
-  inverse = Numbers.inverse d r element bits
+  inverse a = cond (bits a == 0) None (Some (element (inverted (bits a))))
 
   -- an element is its bits
   pub same : (a b : F) → bits a ≡ bits b → a ≡ b
@@ -58,7 +68,7 @@ module _ {F : Type 0} {d r : ℕ} {element : ℕ → F} {bits : F → ℕ} (law 
   product-lt a b = Ring.product_lt d r law.rest-lt d (bits a) (bits b) (law.bits-lt a)
 
   pub inverted-lt : (a : ℕ) → inverted a < 2 ^ d
-  inverted-lt a = times_squares-lt d r law.rest-lt (d - 1) a 1 law.one-lt
+  inverted-lt a = times_squares-lt d r law.rest-lt k a 1 law.one-lt
 
   pub sum-value : (a b : F) → bits (sum a b) ≡ bit_xor (bits a) (bits b)
   sum-value a b = law.bits-element _ (sum-lt a b)
@@ -109,3 +119,21 @@ module _ {F : Type 0} {d r : ℕ} {element : ℕ → F} {bits : F → ℕ} (law 
         let z : nat_eq (bits a) 0 ≡ false = other_than_zero a other in
         (element (inverted (bits a)), (ap (λ b. cond b None (Some (element (inverted (bits a))))) z, times-inverse a z));
   }
+
+-- where a test of each number says that the power by k squares is its inverse
+module _ (d r k : ℕ) (small : r < 2 ^ d) (big : 1 < 2 ^ d) (all-invert : agree_below (inverts_by_squares d r k) (λ _. true) (2 ^ d) ≡ true)
+    {F : Type 0} (element : ℕ → F) (bits : F → ℕ) (bits-lt : (a : F) → bits a < 2 ^ d)
+    (bits-element : (n : ℕ) → n < 2 ^ d → bits (element n) ≡ n) (element-bits : (a : F) → element (bits a) ≡ a) where
+  pub represented_by_squares : IsRepresentedBySquares d r k element bits
+  represented_by_squares = record {
+    rest-lt = small;
+    one-lt = big;
+    bits-lt = bits-lt;
+    bits-element = bits-element;
+    element-bits = element-bits;
+    times-inverted = times_by_squares d r k all-invert;
+  }
+
+  pub laws_by_squares : Laws (element 0) (element 1) (Numbers.sum element bits) (Numbers.product d r element bits)
+      (λ a. cond (bits a == 0) None (Some (element (times_squares d r k (bits a) 1))))
+  laws_by_squares = laws represented_by_squares

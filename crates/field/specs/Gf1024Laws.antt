@@ -9,7 +9,7 @@ use Rattle.field.specs.CarryLess.{times_x, product_by, times_squares, IsRepresen
 use Rattle.field.specs.Gf1024.{element, bits, sum, product, inverse}
 use Rattle.field.specs.Laws.{Laws}
 use Rattle.field.specs.CarryLessField as CarryLessField
-use Rattle.field.specs.CarryLessField.{inverts, times-inverted}
+use Rattle.field.specs.CarryLessField.{inverts, inverts_by_squares, times-inverted}
 
 -- an element is its value
 pub same : (a b : Gf1024) → a.value ≡ b.value → a ≡ b
@@ -23,7 +23,7 @@ value-element n h = mod-eq_of_lt h
 
 -- by computing it for each number
 all-invert : agree_below (inverts 10 9) (λ _. true) 1024 ≡ true
-unfolding inverts times_x product_by times_squares
+unfolding inverts inverts_by_squares times_x product_by times_squares
 all-invert = refl
 
 pub represented : IsRepresented 10 9 element bits

@@ -1,5 +1,5 @@
 ghost use Rattle.std.specs.Prelude.{◌≡◌, ◌<◌};
-ghost use Rattle.field.specs.Gf1024.{element as element_of, bits as bits_of};
+ghost use Rattle.field.specs.Gf1024.{element as element_of, bits as bits_of, inverted};
 ghost use Rattle.field.specs.Gf1024Laws;
 
 use super::Gf1024;
@@ -39,7 +39,12 @@ impl Binary for Gf1024 {
     }
 
     /// a^1022, which is a^2 · a^4 · .. · a^512.
-    fn invert(a: u16) -> u16 {
+    // It asks less than the trait, as 0 has this power too.
+    fn invert(a: u16) -> u16
+        requires { a < 1024 }
+        ensures value { result ≡ inverted a }
+        ensures small { result < 1024 }
+    {
         let mut square = a;
         let mut power = 1;
         // As many rounds as there are squares, and both numbers change: a fold would carry them as a pair.
