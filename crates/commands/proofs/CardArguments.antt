@@ -13,7 +13,7 @@ one-fails (t ∷ ts) zero e = and_left t (all_pass ts) e
 one-fails (t ∷ ts) (suc k) e = and_right t (all_pass ts) (one-fails ts k e)
 
 module _ (texts : List (List ℕ)) where
-  misfit : (k : ℕ) → get_or (card_tests texts) k true ≡ false → None ≡ fields_from texts
+  pub misfit : (k : ℕ) → get_or (card_tests texts) k true ≡ false → None ≡ fields_from texts
   misfit k e = sym (cond-false (all_pass (card_tests texts)) (Some (card_fields texts)) None (one-fails (card_tests texts) k e))
 
   pub too_many : 9 < length texts → None ≡ fields_from texts

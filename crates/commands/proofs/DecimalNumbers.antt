@@ -1,6 +1,6 @@
 -- Numbers in decimal digits, one digit after the other.
 use Rattle.std.proofs.Common.{◌≡◌, ℕ, ◌+◌, ◌*◌, ◌<◌, ◌≤◌, Bool, true, false, cond, ◌&&◌, ltb, leb, List, [], ◌∷◌, length, Some, None, sym, refl, ap, arith}
-use Rattle.std.proofs.lemmas.Bool.{and_from, and_right, cond-true, cond-false, lt-ltb, le-leb, lt-leb}
+use Rattle.std.proofs.lemmas.Bool.{and_from, and_left, and_right, cond-true, cond-false, lt-ltb, le-leb, lt-leb}
 use Rattle.std.specs.Str.Parse.{digits_value_after}
 use Rattle.std.specs.Char.{digit_value}
 use Rattle.commands.specs.Arguments.{digit_from, only_digits, number_in, is_number, number_from}
@@ -21,6 +21,9 @@ module _ (radix b : ℕ) (bs : List ℕ) where
       let p = some-passed (ltb (digit_value b) radix) (digit_value b) d e in
       (ap (λ t. t && only_digits radix bs) p.0, p.1)
 
+  pub digit_none : None ≡ digit_from radix b → only_digits radix (b ∷ bs) ≡ false
+  digit_none e = and_left (ltb (digit_value b) radix) (only_digits radix bs) (none-failed (ltb (digit_value b) radix) (digit_value b) e)
+
 -- ---- numbers
 at_least : (n : ℕ) (bs : List ℕ) → n ≤ digits_value_after 10 n bs
 at_least n [] = omega arith
@@ -35,6 +38,9 @@ module _ (most : ℕ) (text : List ℕ) where
 
   failed : (some && (only_digits 10 text && inside)) ≡ false → None ≡ number_from 0 most text
   failed e = sym (cond-false (is_number 0 most text) (Some (number_in text)) None e)
+
+  pub no_digits : only_digits 10 text ≡ false → None ≡ number_from 0 most text
+  no_digits e = failed (and_right some _ (and_left (only_digits 10 text) inside e))
 
   pub too_large : (n : ℕ) (bs : List ℕ) → digits_value_after 10 n bs ≡ number_in text → most < n → None ≡ number_from 0 most text
   too_large n bs e h =

@@ -1,5 +1,6 @@
 -- Hexadecimal digits, as the library writes and reads them.
-use Rattle.std.proofs.Common.{◌≡◌, ℕ, zero, suc, ◌+◌, ◌*◌, ◌/◌, ◌%◌, ◌<◌, ◌≤◌, Bool, true, false, cond, ◌&&◌, eqb, ltb, leb, List, [], ◌∷◌, length, get_or, take, Some, None, Ok, Err, Option, Result, sym, refl, ap, ◌∙◌, inl, inr, is_ok, arith, MatchOption, MatchResult}
+use Rattle.std.proofs.Common.{◌≡◌, ℕ, zero, suc, ◌+◌, ◌*◌, ◌/◌, ◌%◌, ◌<◌, ◌≤◌, Bool, true, false, cond, ◌&&◌, eqb, ltb, leb, List, [], ◌∷◌, length, get_or, take, drop, Some, None, Ok, Err, Option, Result, sym, refl, ap, ◌∙◌, inl, inr, is_ok, arith, MatchOption, MatchResult}
+use Rattle.std.proofs.lemmas.List.{drop_more}
 use Rattle.std.proofs.lemmas.Bool.{and_from, and_left, and_parts, and_right, cases_Bool, cases_lt, cond-true, cond-false, eq-eqb, eqb-true, le-leb, leb-true, lt-leb, ne_eqb, true≢false}
 use Rattle.std.proofs.lemmas.Bool.Decides.{nat_tests}
 use Rattle.std.specs.Option.{option_map}
@@ -10,6 +11,7 @@ use Rattle.hex.specs.declared.error.FromHexError.TheVariants.{OddLength}
 use Rattle.reader.specs.declared.value.Value.{Value}
 use Rattle.commands.specs.Answers.{hex_digit, hex_of}
 use Rattle.commands.specs.Arguments.{only_digits, bytes_in, is_value, value_from}
+use Rattle.commands.proofs.DecimalNumbers.{some-passed, none-failed}
 
 -- ---- written
 -- the test of the first n digits, which computes
@@ -47,14 +49,14 @@ abbrev read : Bool → ℕ → ℕ → ℕ → Result ℕ FromHexError
 read t v c i = digit_or_error c i (cond t (Some v) None)
 
 module _ (high low i : ℕ) (h l : ℕ) (only : Bool) (more : List ℕ) where
-  pair : (s t : Bool) (r : Result (List ℕ) FromHexError)
+  pair_read : (s t : Bool) (r : Result (List ℕ) FromHexError)
       → MatchResult r (λ bytes. (only ≡ true) × (bytes ≡ more)) (λ e. only ≡ false)
       → MatchResult ((read s h high i >>= (λ x. read t l low (i + 1) >>= (λ y. Ok (x * 16 + y)))) >>= (λ b. r >>= (λ bytes. Ok (b ∷ bytes))))
       (λ bytes. ((s && (t && only)) ≡ true) × (bytes ≡ (h * 16 + l) ∷ more)) (λ e. (s && (t && only)) ≡ false)
-  pair true true (Ok bytes) m = (m.0, ap (λ rest. (h * 16 + l) ∷ rest) m.1)
-  pair true true (Err e) m = m
-  pair true false r m = refl
-  pair false t r m = refl
+  pair_read true true (Ok bytes) m = (m.0, ap (λ rest. (h * 16 + l) ∷ rest) m.1)
+  pair_read true true (Err e) m = m
+  pair_read true false r m = refl
+  pair_read false t r m = refl
 
 decoded : (text : List ℕ) (i : ℕ) → length text % 2 ≡ 0 → MatchResult (decode_pairs i text) (λ bytes. (only_digits 16 text ≡ true) × (bytes ≡ bytes_in text)) (λ e. only_digits 16 text ≡ false)
 unfolding decode_pairs
@@ -62,8 +64,38 @@ decoded [] i e = (refl, refl)
 decoded (digit ∷ []) i e = absurd (omega arith)
 decoded (high ∷ low ∷ more) i e =
     rw (one_digit high, one_digit low)
-    (pair high low i (digit_value high) (digit_value low) (only_digits 16 more) (bytes_in more) (ltb (digit_value high) 16) (ltb (digit_value low) 16)
+    (pair_read high low i (digit_value high) (digit_value low) (only_digits 16 more) (bytes_in more) (ltb (digit_value high) 16) (ltb (digit_value low) 16)
     (decode_pairs (i + 2) more) (decoded more (i + 2) (omega arith)))
+
+-- ---- two digits more
+later : (i : ℕ) → 2 * i + 1 + 1 ≡ 2 * (i + 1)
+later i = omega arith
+
+pub two-more : (text : List ℕ) (i : ℕ) → 2 * i + 1 < length text
+    → drop (2 * i) text ≡ get_or text (2 * i) 0 ∷ get_or text (2 * i + 1) 0 ∷ drop (2 * (i + 1)) text
+two-more text i h =
+    drop_more text (2 * i) 0 (omega arith)
+    ∙ ap (λ more. get_or text (2 * i) 0 ∷ more) (drop_more text (2 * i + 1) 0 h ∙ ap (λ n. get_or text (2 * i + 1) 0 ∷ drop n text) (later i))
+
+joint : (x y z : Bool) → (x && (y && z)) ≡ ((x && (y && true)) && z)
+joint true true z = refl
+joint true false z = refl
+joint false y z = refl
+
+pair-digits : (high low : ℕ) (more : List ℕ) → only_digits 16 (high ∷ low ∷ more) ≡ (only_digits 16 (high ∷ low ∷ []) && only_digits 16 more)
+pair-digits high low more = joint (ltb (digit_value high) 16) (ltb (digit_value low) 16) (only_digits 16 more)
+
+module _ (high low : ℕ) (more : List ℕ) where
+  abbrev pair : Option ℕ
+  pair = cond (only_digits 16 (high ∷ low ∷ [])) (Some (digit_value high * 16 + digit_value low)) None
+
+  pub pair-more : (b : ℕ) → Some b ≡ pair → (only_digits 16 (high ∷ low ∷ more) ≡ only_digits 16 more) × (b ≡ digit_value high * 16 + digit_value low)
+  pair-more b e =
+      let p = some-passed (only_digits 16 (high ∷ low ∷ [])) (digit_value high * 16 + digit_value low) b e in
+      (pair-digits high low more ∙ ap (λ t. t && only_digits 16 more) p.0, p.1)
+
+  pub pair-none : None ≡ pair → only_digits 16 (high ∷ low ∷ more) ≡ false
+  pair-none e = pair-digits high low more ∙ and_left (only_digits 16 (high ∷ low ∷ [])) (only_digits 16 more) (none-failed (only_digits 16 (high ∷ low ∷ [])) _ e)
 
 -- ---- values
 doubled : (n q : ℕ) → n ≡ 2 * q → n % 2 ≡ 0
@@ -79,14 +111,14 @@ module _ (text : List ℕ) where
   failed : (only_digits 16 text && (fours && inside)) ≡ false → None ≡ value_from text
   failed e = sym (cond-false (is_value text) (Some (bytes_in text)) None e)
 
-  no_digits : only_digits 16 text ≡ false → None ≡ value_from text
+  pub no_digits : only_digits 16 text ≡ false → None ≡ value_from text
   no_digits e = failed (and_left (only_digits 16 text) (fours && inside) e)
 
-  odd_digits : (length text % 2 ≡ 0 → ⊥) → None ≡ value_from text
+  pub odd_digits : (length text % 2 ≡ 0 → ⊥) → None ≡ value_from text
   odd_digits h = failed (and_right (only_digits 16 text) _ (and_left fours inside (ne_eqb (length text % 4) 0 (λ e. h (omega arith)))))
 
-  pub many_digits : 128 < length text → None ≡ value_from text
-  many_digits h = failed (and_right (only_digits 16 text) _ (and_right fours _ (and_right (leb 32 (length text)) _ (lt-leb (length text) 128 h))))
+  pub many-digits : 128 < length text → None ≡ value_from text
+  many-digits h = failed (and_right (only_digits 16 text) _ (and_right fours _ (and_right (leb 32 (length text)) _ (lt-leb (length text) 128 h))))
 
   pub value_made : (bytes : List ℕ) (count : ℕ) → length text ≡ 2 * count → only_digits 16 text ≡ true → take count bytes ≡ bytes_in text → (r : Option Value)
       → MatchOption r (16 ≤ count → count ≤ 64 → count % 2 ≡ 1) (λ v. (length v.bytes ≡ count) × (v.bytes ≡ take count bytes))

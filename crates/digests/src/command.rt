@@ -105,9 +105,11 @@ fn answer_chain<D: KeyedDigest>(
 ) -> Result<String, AllocError>
     ensures { IfOk result (λ s. string_bytes s ≡ chain_of_words D.size D.keyed words.entry) }
 {
-    let (Some(count), Some(key), Some(mut link), Some(mut total)) = (
-        count_in(words.first),
-        decode(heap, words.second)?,
+    // Before the link and the total, so that these ask for no memory where the count or the key is malformed.
+    let (Some(count), Some(key)) = (count_in(words.first), decode(heap, words.second)?) else {
+        return malformed(heap);
+    };
+    let (Some(mut link), Some(mut total)) = (
         decode(heap, words.third)?,
         decode(heap, words.fourth)?,
     ) else {

@@ -15,7 +15,7 @@ fn has_capital(digits: &[u8]) -> bool
 fn unhex(heap: Global, digits: &[u8]) -> Result<Option<Vec<u8>>, AllocError>
     ensures { IfOk result (λ bytes. option_map (λ v. v.items) bytes ≡ bytes_in digits.now) }
 {
-    if has_capital(digits) {
+    if digits.len() % 2 != 0 || has_capital(digits) {
         return Ok(None);
     }
     let mut bytes = Vec::from_elem(heap, 0, digits.len() / 2)?;

@@ -41,14 +41,14 @@ module _ (bs : List ℕ) where
   abbrev Begins : List (List ℕ) → ℕ → Type 0
   Begins ws j = begins_with (slice_index_or ws j []) bs ≡ true
 
-  none : (ws : List (List ℕ)) (i : ℕ) → ((j : ℕ) → j < length ws → Begins ws j → ⊥) → indices ws i bs ≡ []
+  pub none : (ws : List (List ℕ)) (i : ℕ) → ((j : ℕ) → j < length ws → Begins ws j → ⊥) → indices ws i bs ≡ []
   none [] i h = refl
   none (w ∷ ws) i h = grind (arith, common_steps, h 0, none ws (i + 1) (λ j k e. h (suc j) (omega arith) e))
 
   pub absent : (ws : List (List ℕ)) → ((j : ℕ) → j < length ws → Begins ws j → ⊥) → index_of ws bs ≡ None
   absent ws h = ap only (none ws 0 h)
 
-  one : (ws : List (List ℕ)) (i j : ℕ) → j < length ws → Begins ws j → ((k : ℕ) → k < length ws → Begins ws k → k ≡ j) → indices ws i bs ≡ (i + j) ∷ []
+  pub one : (ws : List (List ℕ)) (i j : ℕ) → j < length ws → Begins ws j → ((k : ℕ) → k < length ws → Begins ws k → k ≡ j) → indices ws i bs ≡ (i + j) ∷ []
   one [] i j l b u = grind arith
   one (w ∷ ws) i zero l b u = grind (arith, common_steps, none ws (i + 1) (λ k h e. let z : suc k ≡ 0 = u (suc k) (omega arith) e in omega arith))
   one (w ∷ ws) i (suc j) l b u =

@@ -1,5 +1,5 @@
 -- The words of the number lexicon: each is four digits, and no two are alike.
-use Rattle.std.specs.Prelude.{◌≡◌, ℕ, ◌+◌, ◌-◌, ◌*◌, ◌/◌, ◌%◌, ◌<◌, ◌≤◌, true, T, List, [], ◌∷◌, length, take, Some, None, Option, MatchOption, ◌≢◌, slice_index_or}
+use Rattle.std.specs.Prelude.{◌≡◌, ℕ, ◌+◌, ◌-◌, ◌*◌, ◌/◌, ◌%◌, ◌<◌, ◌≤◌, true, T, List, [], ◌∷◌, length, take, Some, None, Option, MatchOption, ◌≢◌, slice_index, slice_index_or}
 use Rattle.std.proofs.Math.Path.{sym, ap, ap₂}
 use Rattle.std.proofs.Common.{subst, ◌∙◌, inl, inr}
 use native.Mathlib.Omega.{arith}
@@ -24,6 +24,21 @@ numbered-at n i h = get_or-map-range_with_len digits 0 n i i [] h (omega arith)
 
 pub same_number : (m n : ℕ) → m < 10000 → n < 10000 → digits m ≡ digits n → m ≡ n
 same_number m n hm hn e = grind arith
+
+pub four-digits : (l : List ℕ) (a b c d : ℕ) → length l ≡ 4 → a < 10 → b < 10 → c < 10 → d < 10
+    → slice_index l 0 ≡ 48 + a → slice_index l 1 ≡ 48 + b → slice_index l 2 ≡ 48 + c → slice_index l 3 ≡ 48 + d → l ≡ digits (a * 1000 + b * 100 + c * 10 + d)
+four-digits [] a b c d n ha hb hc hd ea eb ec ed = absurd (omega arith)
+four-digits (w ∷ []) a b c d n ha hb hc hd ea eb ec ed = absurd (omega arith)
+four-digits (w ∷ x ∷ []) a b c d n ha hb hc hd ea eb ec ed = absurd (omega arith)
+four-digits (w ∷ x ∷ y ∷ []) a b c d n ha hb hc hd ea eb ec ed = absurd (omega arith)
+four-digits (w ∷ x ∷ y ∷ z ∷ v ∷ l) a b c d n ha hb hc hd ea eb ec ed = absurd (omega arith)
+four-digits (w ∷ x ∷ y ∷ z ∷ []) a b c d n ha hb hc hd ea eb ec ed =
+    let N = a * 1000 + b * 100 + c * 10 + d in
+    let e0 : w ≡ 48 + N / 1000 = omega arith in
+    let e1 : x ≡ 48 + N / 100 % 10 = omega arith in
+    let e2 : y ≡ 48 + N / 10 % 10 = omega arith in
+    let e3 : z ≡ 48 + N % 10 = omega arith in
+    ap₂ ◌∷◌ e0 (ap₂ ◌∷◌ e1 (ap₂ ◌∷◌ e2 (ap (λ t. t ∷ []) e3)))
 
 -- ---- the lexicon
 letter : (d : ℕ) → d < 10 → T (is_letter (48 + d))

@@ -35,9 +35,9 @@ impl Word {
         requires { length letters.now ≤ 8 }
         ensures { result ≡ letters.now }
     {
-        let mut bytes = [0; 8];
-        bytes[..letters.len()].copy_from_slice(letters);
-        Word::new(bytes, letters.len())
+        Word {
+            bytes: Bytes::from_slice(letters),
+        }
     }
 
     pub fn bytes(&self) -> &[u8]

@@ -36,6 +36,16 @@ impl<const N: usize> Bytes<N> {
         Bytes { array, count }
     }
 
+    /// The bytes of the slice, or its first `N`.
+    pub fn from_slice(bytes: &[u8]) -> Bytes<N>
+        ensures { result ≡ take N bytes.now }
+    {
+        let count = bytes.len().min(N);
+        let mut array = [0; N];
+        array[..count].copy_from_slice(&bytes[..count]);
+        Bytes { array, count }
+    }
+
     /// The bytes.
     pub fn as_slice(&self) -> &[u8]
         ensures bytes { result.now ≡ self.now }

@@ -1,7 +1,7 @@
 -- The indices of a line's words, one word after the other.
-use Rattle.std.proofs.Common.{◌≡◌, ℕ, List, [], ◌∷◌, ◌++◌, Ok, Err, Result, sym, refl, ap, ◌∙◌, append_assoc}
+use Rattle.std.proofs.Common.{◌≡◌, ℕ, List, [], ◌∷◌, ◌++◌, Ok, Err, Result, sym, refl, ap, ◌∙◌, append_assoc, append-nil}
 use Rattle.refusal.specs.declared.Refusal.{Refusal}
-use Rattle.reader.specs.Line.{Piece, word}
+use Rattle.reader.specs.Line.{Piece, word, remark}
 use Rattle.reader.specs.Reading.{index_at, indices_in, prefixed, followed}
 
 pub prefixed-none : (r : Result (List ℕ) Refusal) → prefixed [] r ≡ r
@@ -19,3 +19,14 @@ module _ (lexicon : List (List ℕ)) where
       ap (λ ps. prefixed front (indices_in lexicon ps)) e
       ∙ ap (λ r. prefixed front (followed r (indices_in lexicon later))) i
       ∙ prefixed-twice front (v ∷ []) (indices_in lexicon later)
+
+  pub unknown : (front : List ℕ) (offset : ℕ) (refusal : Refusal) (bytes : List ℕ) (now later : List Piece) → now ≡ word offset bytes ∷ later → index_at lexicon offset bytes ≡ Err refusal
+      → prefixed front (indices_in lexicon now) ≡ Err refusal
+  unknown front offset refusal bytes now later e i =
+      ap (λ ps. prefixed front (indices_in lexicon ps)) e ∙ ap (λ r. prefixed front (followed r (indices_in lexicon later))) i
+
+  pub at-remark : (front : List ℕ) (offset : ℕ) (bytes : List ℕ) (now : List Piece) → now ≡ remark offset bytes ∷ [] → prefixed front (indices_in lexicon now) ≡ Ok front
+  at-remark front offset bytes now e = ap (λ ps. prefixed front (indices_in lexicon ps)) e ∙ ap Ok (append-nil front)
+
+  pub at-end : (front : List ℕ) (now : List Piece) → now ≡ [] → prefixed front (indices_in lexicon now) ≡ Ok front
+  at-end front now e = ap (λ ps. prefixed front (indices_in lexicon ps)) e ∙ ap Ok (append-nil front)

@@ -1,6 +1,6 @@
 -- The pieces of a line, one byte after the other, as the state machine sees them.
 use Rattle.std.proofs.Common.{◌≡◌, ℕ, ◌+◌, ◌-◌, ◌<◌, ◌≤◌, ◌⊎◌, List, [], ◌∷◌, ◌++◌, length, get_or, take, drop, sym, ap, ◌∙◌, subst, ap₂, inl, inr, arith, length-drop}
-use Rattle.std.proofs.lemmas.List.{at_drop_more, take_more, get_or-drop, get_or-take, take_all, drop_more}
+use Rattle.std.proofs.lemmas.List.{at_drop_more, at_drop_all, take_more, get_or-drop, get_or-take, take_all, drop_more}
 use Rattle.reader.specs.declared.line.State.{State}
 use Rattle.reader.specs.declared.line.State.TheVariants.{Between, InWord, InRemark}
 use Rattle.reader.specs.declared.line.Class.{Class}
@@ -87,3 +87,24 @@ module _ (line : List ℕ) (i : ℕ) (lt : i < length line) where
       inside start (part start i line) Letter (sym is ∙ e) ∙ ap (λ w. pieces (in_word start w) (i + 1) (drop (i + 1) line)) (sym (part-more start i line h lt))
   longer start h k e (inr is) =
       inside start (part start i line) Forbidden (sym is ∙ e) ∙ ap (λ w. pieces (in_word start w) (i + 1) (drop (i + 1) line)) (sym (part-more start i line h lt))
+
+  -- a word ends before a blank or a #
+  pub before_blank : (start : ℕ) → Blank ≡ class_of (get_or line i 0) → told line (InWord start) i ≡ word start (part start i line) ∷ pieces_from line i
+  before_blank start e = inside start (part start i line) Blank e ∙ ap (λ ps. word start (part start i line) ∷ ps) (sym (opened Blank e))
+
+  pub before_hash : (start : ℕ) → Hash ≡ class_of (get_or line i 0) → told line (InWord start) i ≡ word start (part start i line) ∷ pieces_from line i
+  before_hash start e = inside start (part start i line) Hash e ∙ ap (λ ps. word start (part start i line) ∷ ps) (sym (opened Hash e))
+
+-- at the end of the line
+module _ (line : List ℕ) (i : ℕ) (le : length line ≤ i) where
+  pub ended : pieces_from line i ≡ []
+  ended = at_drop_all (pieces between i) line i le
+
+  pub word-ended : (start : ℕ) → told line (InWord start) i ≡ word start (part start i line) ∷ pieces_from line i
+  word-ended start =
+      at_drop_all (pieces (in_word start (part start i line)) i) line i le ∙ ap (λ ps. word start (part start i line) ∷ ps) (sym ended)
+
+  pub remark_ended : (start : ℕ) → drop start line ≡ part start i line
+  remark_ended start =
+      let l : length (drop start line) ≤ i - start = simp length-drop (omega arith) in
+      sym (take_all (i - start) (drop start line) l)

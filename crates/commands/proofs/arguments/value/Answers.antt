@@ -2,11 +2,11 @@
 use Rattle.std.proofs.Common.{◌/◌, length, is_some, sym, ap, ◌∙◌, arith, rules}
 use Rattle.std.proofs.lemmas.List.{take_at}
 use Rattle.std.specs.Option.{option_map}
-use Rattle.commands.proofs.HexValues.{many_digits, refused, read_all, value_made}
+use Rattle.commands.proofs.HexValues.{many-digits, refused, read_all, value_made}
 use Rattle.commands.proofs.arguments.value.Goals as goal
 
 pub returns-then-count-gt64 : goal.returns-then-count-gt64
-returns-then-count-gt64 c = many_digits c.args.text.now (omega (arith, c.if-count-gt64.true))
+returns-then-count-gt64 c = many-digits c.args.text.now (omega (arith, c.if-count-gt64.true))
 
 pub returns-in_err-ok : goal.returns-in_err-ok
 returns-in_err-ok c =
