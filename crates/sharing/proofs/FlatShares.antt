@@ -1,10 +1,15 @@
 -- Shares whose values stand one after the other.
-use Rattle.std.proofs.Common.{◌≡◌, ℕ, zero, suc, ◌+◌, ◌*◌, ◌<◌, ◌≤◌, List, [], ◌∷◌, map, length, take, drop, sym, refl, ap, subst, suc-mul, arith, length-drop, length-take}
+use Rattle.std.proofs.Common.{◌≡◌, ℕ, zero, suc, ◌+◌, ◌*◌, ◌<◌, ◌≤◌, List, [], ◌∷◌, ◌++◌, map, length, get_or, take, drop, set, sym, refl, ap, ◌∙◌, subst, ap₂, suc-mul, add_comm, zero-mul, arith, length-drop, length-take}
 use Rattle.std.specs.List.{AllByRecursion}
 use Rattle.field.specs.Interpolation.{Distinct}
 use Rattle.digest.specs.Keyed.{Bytes}
-use Rattle.sharing.specs.Curves.{Shares}
-use Rattle.sharing.specs.Values.{shares_of}
+use Rattle.sharing.specs.Curves.{Share, Shares}
+use Rattle.std.proofs.lemmas.List.{get_or-map, get_or-take, get_or-drop, drop-drop, take_more_set, take_more, take_all}
+use Rattle.field.specs.declared.gf256.Gf256.{Gf256}
+use Rattle.field.specs.declared.interpolation.point.Point.{Point}
+use Rattle.field.specs.Gf256.{element}
+use Rattle.field.specs.Gf256Laws.{same, value-element}
+use Rattle.sharing.specs.Values.{shares_of, points_at}
 
 pub length-shares : (n : ℕ) (xs values : List ℕ) → length (shares_of n xs values) ≡ length xs
 length-shares n [] values = refl
@@ -46,3 +51,46 @@ sound_shares n xs values d small bytes h =
       lengths = shares-lengths n xs values h;
       bytes = shares-bytes n xs values bytes;
     }
+
+-- ---- the points at one byte position
+share_at : (n : ℕ) (xs values : List ℕ) (i : ℕ) (d : Share) → i < length xs
+    → get_or (shares_of n xs values) i d ≡ record { x = get_or xs i 0; value = take n (drop (i * n) values) }
+share_at n [] values i d h = absurd (omega arith)
+share_at n (x ∷ xs) values zero d h = ap (λ k. record { x = x; value = take n (drop k values) }) (sym (zero-mul n))
+share_at n (x ∷ xs) values (suc i) d h =
+    share_at n xs (drop n values) i d (omega arith)
+    ∙ ap (λ l. record { x = get_or xs i 0; value = take n l }) (drop-drop (i * n) n values ∙ ap (λ k. drop k values) (add_comm n (i * n) ∙ sym (suc-mul i n)))
+
+pub point_at : (n : ℕ) (xs values : List ℕ) (i j : ℕ) (d : Point Gf256) → i < length xs → j < n
+    → get_or (points_at j (shares_of n xs values)) i d ≡ record { x = element (get_or xs i 0); y = element (get_or values (i * n + j) 0) }
+point_at n xs values i j d h hj =
+    let e : Share = record { x = 0; value = [] } in
+    get_or-map (λ s. record { x = element s.x; y = element (get_or s.value j 0) }) (shares_of n xs values) i e d
+    (subst (λ k. i < k) (sym (length-shares n xs values)) h)
+    ∙ ap (λ s. record { x = element s.x; y = element (get_or s.value j 0) }) (share_at n xs values i e h)
+    ∙ ap (λ b. record { x = element (get_or xs i 0); y = element b }) (get_or-take n (drop (i * n) values) j 0 hj ∙ get_or-drop (i * n) values j 0)
+
+pub length-points : (j n : ℕ) (xs values : List ℕ) → length (points_at j (shares_of n xs values)) ≡ length xs
+length-points j n [] values = refl
+length-points j n (x ∷ xs) values = ap suc (length-points j n xs (drop n values))
+
+-- an element by its value
+pub by_value : (a : Gf256) (b : ℕ) → b < 256 → a.value ≡ b → a ≡ element b
+by_value a b h e = same a (element b) (e ∙ sym (value-element b h))
+
+pub points_more : (n : ℕ) (xs values : List ℕ) (i j : ℕ) (points : List (Point Gf256)) (a b : Gf256) → i < length xs → j < n → i < length points
+    → get_or xs i 0 < 256 → get_or values (i * n + j) 0 < 256 → a.value ≡ get_or xs i 0 → b.value ≡ get_or values (i * n + j) 0
+    → take i points ≡ take i (points_at j (shares_of n xs values))
+    → take (i + 1) (set points i (record { x = a; y = b })) ≡ take (i + 1) (points_at j (shares_of n xs values))
+points_more n xs values i j points a b h hj hp small-x small-y is_x is_y inv =
+    let d : Point Gf256 = record { x = a; y = b } in
+    let all = points_at j (shares_of n xs values) in
+    take_more_set points i d hp
+    ∙ ap₂ (λ l p. l ++ (p ∷ [])) inv (ap₂ (λ u v. record { x = u; y = v }) (by_value a _ small-x is_x) (by_value b _ small-y is_y) ∙ sym (point_at n xs values i j d h hj))
+    ∙ sym (take_more all i d (subst (λ k. i < k) (sym (length-points j n xs values)) h))
+
+pub points_all : (n : ℕ) (xs values : List ℕ) (i j : ℕ) (points : List (Point Gf256)) → length xs ≤ i → length points ≡ length xs
+    → take i points ≡ take i (points_at j (shares_of n xs values)) → points ≡ points_at j (shares_of n xs values)
+points_all n xs values i j points h k inv =
+    let m : length (points_at j (shares_of n xs values)) ≡ length xs = length-points j n xs values in
+    sym (take_all i points (omega arith)) ∙ inv ∙ take_all i (points_at j (shares_of n xs values)) (omega arith)

@@ -5,6 +5,7 @@ pub mod FlatShares
 pub mod EachByte
 pub mod LentShares
 pub mod ByteValues
+pub mod OtherShares
 pub mod CurveTheorems
 pub mod CurveAnswers
 pub mod DigestLaws

@@ -1,7 +1,7 @@
 //! Whether shares lie on a curve, and its secret.
 ghost use Rattle.std.specs.Prelude.{◌≡◌, length, Decides};
 ghost use Rattle.sharing.specs.Curves.{CurveLaws};
-ghost use Rattle.sharing.specs.Values.{SecretFits, AllFit, SecretAnswer};
+ghost use Rattle.sharing.specs.Values.{SecretFits, SecretAnswer};
 ghost use Rattle.sharing.specs.declared.curve.NoSecret.TheVariants as no_secret;
 
 use crate::checks::digest_fits;
@@ -37,23 +37,13 @@ fn secret_fits<D: KeyedDigest>(digest: &D, fixing: &SoundShares<'_, '_>, secret:
     if fixing.shares.len() < 2 {
         return true;
     }
+    if fixing.length < 4 {
+        return false;
+    }
     let mut space = [0; LONGEST_VALUE];
     let check = &mut space[..fixing.length];
     fixing.fill_value(254, check);
     digest_fits(digest, check, secret)
-}
-
-// Whether the others and the digest fit the secret that the shares fix.
-fn all_fit<D: KeyedDigest>(
-    digest: &D,
-    fixing: &SoundShares<'_, '_>,
-    others: &[Share<'_>],
-    secret: &[u8],
-) -> bool
-    requires { length secret.now ≡ fixing.now.length }
-    ensures { Decides result (AllFit D.keyed fixing.now.length fixing.now.shares.now others.now secret.now) }
-{
-    fixing.others_fit(others) && secret_fits(digest, fixing, secret)
 }
 
 /// Writes the secret of the shares, if they are as many as the threshold asks, or more, and lie on a curve of that threshold.
@@ -72,10 +62,13 @@ pub fn curve_secret<D: KeyedDigest>(
     let Some((fixing, others)) = sound.split_at(usize::from(threshold.value)) else {
         return Err(NoSecret::TooFew);
     };
+    if !fixing.others_fit(others) {
+        return Err(NoSecret::NoCurve);
+    }
     let mut space = [0; LONGEST_VALUE];
     let candidate = &mut space[..secret.len()];
     fixing.fill_value(255, candidate);
-    if !all_fit(digest, &fixing, others, candidate) {
+    if !secret_fits(digest, &fixing, candidate) {
         return Err(NoSecret::NoCurve);
     }
     secret.copy_from_slice(candidate);
