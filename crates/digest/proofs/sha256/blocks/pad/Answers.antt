@@ -3,7 +3,7 @@ use Rattle.std.proofs.Common.{◌≡◌, ℕ, ◌+◌, ◌-◌, ◌*◌, ◌≤�
 use Rattle.std.proofs.lemmas.List.{length-set, length-append, length-drop, length-replicate}
 use Rattle.std.proofs.lemmas.Slice.{take-put_mid}
 use Rattle.digest.specs.Sha256.{zero_bytes, be64}
-use Rattle.digest.specs.Padding.{pad_is, be64-mod}
+use Rattle.digest.specs.Padding.{padded_space, be64-mod}
 use Rattle.digest.proofs.sha256.blocks.pad.Goals as goal
 use Rattle.digest.proofs.sha256.blocks.pad.Goals.{then-at-lt56, else-at-lt56}
 
@@ -26,4 +26,4 @@ returns-clause-holds c =
     let l4 : length copied ≡ n = ap length c.copy_from_slice.ensures.after in
     let l5 : length space ≡ 128 = ap length c.requires.clear ∙ length-replicate {A = ℕ} 128 0 in
     take-put_mid (end - 8) _ _ c.copy_from_slice-2.new.self end (omega (arith, ap length eight, low)) (omega (arith, l1, l2, l3, l4, l5, top))
-    ∙ pad_is rest copied space _ total (127 - n) (end - 8) c.copy_from_slice.ensures.after c.requires.clear eight (omega (arith, c.requires.left)) place (omega (arith, place, top))
+    ∙ padded_space rest copied space _ total (127 - n) (end - 8) c.copy_from_slice.ensures.after c.requires.clear eight (omega (arith, c.requires.left)) place (omega (arith, place, top))
