@@ -2,7 +2,7 @@
 use Rattle.std.specs.Prelude.{◌≡◌, ℕ, zero, suc, ◌+◌, ◌-◌, ◌*◌, ◌/◌, ◌%◌, ◌^◌, ◌<◌, ◌≤◌, List, [], ◌∷◌, ◌++◌, length, take, drop, replicate, slice_index, slice_set, refl}
 use Rattle.std.proofs.Common.{sym, ap, ap₂, ◌∙◌, add-zero, add-suc, mod-lt, zero-lt-suc, add-one, arith}
 use Rattle.std.proofs.Math.Seq.{take-add, take-append-add, drop-append-add}
-use Rattle.std.proofs.lemmas.List.{length-append, append_assoc, length-drop, take-append-le, drop-append-le, drop-drop, take-replicate, drop-replicate, take_more, set_at}
+use Rattle.std.proofs.lemmas.List.{length-append, append_assoc, length-drop, take-append-le, drop-append-le, drop-drop, take-replicate, drop-replicate, take_more, set_at, set-append_right, drop-set-add}
 use Rattle.digest.specs.Keyed.{Bytes}
 use Rattle.digest.specs.Sha256.{initial, compressed, words_of, block_of, hashed, padding, padded, zero_bytes, be32, be64, bytes_of, sha256}
 use Rattle.digest.specs.Parts.{finished}
@@ -103,6 +103,14 @@ padded_space rest copied space eight total left m ec es e8 el em le =
     ap (λ u. slice_set u n 0x80) was ∙ set_at rest 0 (replicate left 0) 0x80 n refl in
     let front : take m (slice_set (copied ++ drop n space) n 0x80) ≡ rest ++ 0x80 ∷ replicate z 0 = ap (take m) marked ∙ filled_up rest left z m em le in
     ap₂ ◌++◌ front e8 ∙ append_assoc rest (0x80 ∷ replicate z 0) (be64 (8 * total))
+
+-- the byte that is put in before the copy is the byte that is put in after it
+pub marked_first : (copied space : List ℕ) (n mark : ℕ) → length copied ≡ n → copied ++ drop n (slice_set space n mark) ≡ slice_set (copied ++ drop n space) n mark
+marked_first copied space n mark e =
+    let at : n ≡ n + 0 = omega arith in
+    let none : 0 ≡ n - n = omega arith in
+    ap (λ r. copied ++ r) (ap (λ k. drop n (slice_set space k mark)) at ∙ drop-set-add n space 0 mark ∙ ap (λ k. slice_set (drop n space) k mark) none)
+    ∙ sym (set-append_right copied (drop n space) n n mark e (omega arith))
 
 bytes-append : (xs ys : List ℕ) → bytes_of (xs ++ ys) ≡ bytes_of xs ++ bytes_of ys
 bytes-append [] ys = refl
