@@ -1,5 +1,5 @@
 -- A space that is filled with the blocks of PBKDF2, one after the other.
-use Rattle.std.proofs.Common.{◌≡◌, ℕ, zero, suc, ◌+◌, ◌-◌, ◌*◌, ◌/◌, ◌%◌, ◌<◌, ◌≤◌, min, List, ◌++◌, length, take, sym, ap, ap₂, ◌∙◌, add-one, arith}
+use Rattle.std.proofs.Common.{◌≡◌, ℕ, zero, suc, ◌+◌, ◌-◌, ◌*◌, ◌/◌, ◌%◌, ◌<◌, ◌≤◌, min, List, ◌++◌, length, take, sym, ap, ap₂, ◌∙◌, arith}
 use Rattle.std.proofs.Math.Nat.{add-mul}
 use Rattle.std.proofs.Math.Seq.{take-append-add}
 use Rattle.std.proofs.lemmas.Nat.{div-add-mod', div-mul-add, mod_below, mul-le}
@@ -9,7 +9,7 @@ use Rattle.std.proofs.lemmas.Slice.{take-put_mid}
 use Rattle.std.specs.Int.{div_ceil}
 use borrow.Rule.Slice.PartMut.{put_mid}
 use Rattle.cipher.specs.Stretching.{int, combined, blocks, block_count, pbkdf2}
-use Rattle.cipher.specs.Blocks.{length-blocks, blocks-enough}
+use Rattle.cipher.specs.Blocks.{length-blocks, blocks_more, blocks-enough}
 
 ceil_of : (n L q r : ℕ) → r < L → q * L + r ≡ n → q + min 1 r ≡ (n + L - 1) / L
 ceil_of n L q zero h e =
@@ -25,10 +25,6 @@ div_ceil-is n L pos = ceil_of n L (n / L) (n % L) (mod_below n L pos) (div-add-m
 -- a block before the last ends before the result does
 within : (L n i : ℕ) → 0 < L → i < div_ceil n L → i * L < n
 within L n i pos h = omega (arith, div_ceil_times n L pos, mul-le (i + 1) L (div_ceil n L) L (omega arith) (omega arith), add-mul i 1 L)
-
-blocks_more : (f : List ℕ → List ℕ) (salt : List ℕ) (c l : ℕ) → blocks f salt c (l + 1) ≡ blocks f salt c l ++ combined f (salt ++ int (l + 1)) c
-unfolding blocks
-blocks_more f salt c l = rw add-one
 
 module _ (prf : List ℕ → List ℕ → List ℕ) (password : List ℕ) (L : ℕ) (sized : (m : List ℕ) → length (prf password m) ≡ L) (pos : 0 < L) (salt : List ℕ) (c : ℕ) (some : 1 ≤ c) where
   -- one block more after the first `at` bytes, cut at the end of the space

@@ -1,5 +1,6 @@
 -- Bytes that are all zero.
-use Rattle.std.proofs.Common.{◌≡◌, ℕ, zero, suc, Bool, true, false, ◌&&◌, eqb, List, [], ◌∷◌, ◌++◌, length, take, drop, replicate, sym, refl, ap, ◌∙◌, ap₂}
+use Rattle.std.proofs.Common.{◌≡◌, ℕ, zero, suc, Bool, true, false, ◌&&◌, eqb, List, [], ◌∷◌, ◌++◌, length, get_or, take, drop, replicate, sym, refl, ap, ◌∙◌, ap₂, arith}
+use Rattle.std.proofs.Math.Bool.{and-true}
 use Rattle.std.proofs.lemmas.List.{take-append-drop}
 use Rattle.std.proofs.lemmas.Bool.{eqb-true, and_parts}
 use Rattle.cipher.specs.Wiped.{is_zero}
@@ -17,6 +18,15 @@ replicate-zero [] h = refl
 replicate-zero (x ∷ xs) h =
     let both = and_parts (eqb x 0) (is_zero xs) h in
     ap₂ (λ (y : ℕ) (ys : List ℕ). y ∷ ys) (eqb-true x 0 both.0) (replicate-zero xs both.1)
+
+pub zero_none : (xs : List ℕ) → length xs ≡ 0 → true ≡ is_zero xs
+zero_none [] h = refl
+zero_none (x ∷ xs) h = absurd (omega arith)
+
+pub zero_one : (xs : List ℕ) → length xs ≡ 1 → eqb (get_or xs 0 0) 0 ≡ is_zero xs
+zero_one [] h = absurd (omega arith)
+zero_one (x ∷ []) h = sym (and-true (eqb x 0))
+zero_one (x ∷ (y ∷ xs)) h = absurd (omega arith)
 
 zero_append : (xs ys : List ℕ) → is_zero (xs ++ ys) ≡ (is_zero xs && is_zero ys)
 zero_append [] ys = refl

@@ -7,4 +7,3 @@ pub mod Windows
 pub mod Keys
 pub mod WordChains
 pub mod Made
-pub mod Joined

@@ -1,8 +1,9 @@
 -- The lanes of the drill digest, byte by byte.
-use Rattle.std.specs.Prelude.{◌≡◌, ℕ, zero, suc, ◌+◌, ◌%◌, ◌<◌, List, [], ◌∷◌, bit_xor, slice_index, slice_set, refl}
-use Rattle.std.proofs.Common.{ap, ◌∙◌, arith, lit<}
+use Rattle.std.specs.Prelude.{◌≡◌, ℕ, zero, suc, ◌+◌, ◌%◌, ◌<◌, ◌≤◌, List, [], ◌∷◌, ◌++◌, length, drop, bit_xor, slice_index, slice_set, refl}
+use Rattle.std.proofs.Common.{sym, ap, ◌∙◌, arith, lit<}
 use Rattle.std.specs.Int.Bits.{xor_assoc, xor_zero_r}
 use Rattle.std.proofs.lemmas.Nat.{xor_lt}
+use Rattle.std.proofs.lemmas.List.{drop_more, drop_all}
 use Rattle.digest.specs.Keyed.{Bytes}
 use Rattle.digest.specs.Drill.{lane, lanes}
 
@@ -13,6 +14,22 @@ none = 0 ∷ 0 ∷ 0 ∷ 0 ∷ []
 abbrev pub mixed : List ℕ → ℕ → List ℕ → List ℕ
 mixed before n [] = before
 mixed before n (x ∷ xs) = mixed (slice_set before (n % 4) (bit_xor (slice_index before (n % 4)) x)) (n + 1) xs
+
+pub mixed-append : (before : List ℕ) (n : ℕ) (xs ys : List ℕ) → mixed before n (xs ++ ys) ≡ mixed (mixed before n xs) (n + length xs) ys
+mixed-append before n [] ys = ap (λ k. mixed before k ys) (omega arith)
+mixed-append before n (x ∷ xs) ys =
+    let at : n + 1 + length xs ≡ n + suc (length xs) = omega arith in
+    mixed-append (slice_set before (n % 4) (bit_xor (slice_index before (n % 4)) x)) (n + 1) xs ys
+    ∙ ap (λ k. mixed (mixed before n (x ∷ xs)) k ys) at
+
+pub mixed-more : (before : List ℕ) (n n' i : ℕ) (xs : List ℕ) → n' ≡ n + 1 → i < length xs →
+    mixed (slice_set before (n % 4) (bit_xor (slice_index before (n % 4)) (slice_index xs i))) n' (drop (i + 1) xs) ≡ mixed before n (drop i xs)
+mixed-more before n n' i xs e h =
+    ap (λ k. mixed (slice_set before (n % 4) (bit_xor (slice_index before (n % 4)) (slice_index xs i))) k (drop (i + 1) xs)) e
+    ∙ ap (mixed before n) (sym (drop_more xs i 0 h))
+
+pub mixed-all : (before : List ℕ) (n i : ℕ) (xs : List ℕ) → length xs ≤ i → mixed before n (drop i xs) ≡ before
+mixed-all before n i xs h = ap (mixed before n) (drop_all i xs h)
 
 -- from position n on, a lane takes every fourth byte; the four cases of n modulo 4
 abbrev four : ℕ → ℕ → ℕ → ℕ → List ℕ

@@ -1,10 +1,10 @@
 -- Whole blocks, then the end of a message with its padding.
-use Rattle.std.specs.Prelude.{◌≡◌, ℕ, zero, suc, ◌+◌, ◌-◌, ◌*◌, ◌/◌, ◌%◌, ◌^◌, ◌<◌, ◌≤◌, List, [], ◌∷◌, ◌++◌, length, take, drop, replicate, slice_set, refl}
+use Rattle.std.specs.Prelude.{◌≡◌, ℕ, zero, suc, ◌+◌, ◌-◌, ◌*◌, ◌/◌, ◌%◌, ◌^◌, ◌<◌, ◌≤◌, List, [], ◌∷◌, ◌++◌, length, take, drop, replicate, slice_index, slice_set, refl}
 use Rattle.std.proofs.Common.{sym, ap, ap₂, ◌∙◌, add-zero, add-suc, mod-lt, zero-lt-suc, add-one, arith}
-use Rattle.std.proofs.Math.Seq.{take-append-add, drop-append-add}
-use Rattle.std.proofs.lemmas.List.{length-append, append_assoc, length-drop, take-append-le, drop-append-le, take-replicate, drop-replicate, set_at}
+use Rattle.std.proofs.Math.Seq.{take-add, take-append-add, drop-append-add}
+use Rattle.std.proofs.lemmas.List.{length-append, append_assoc, length-drop, take-append-le, drop-append-le, drop-drop, take-replicate, drop-replicate, take_more, set_at, set-append_right, drop-set-add}
 use Rattle.digest.specs.Keyed.{Bytes}
-use Rattle.digest.specs.Sha256.{initial, compressed, words_of, block_of, hashed, padding, padded, zero_bytes, be64, bytes_of, sha256}
+use Rattle.digest.specs.Sha256.{initial, compressed, words_of, block_of, hashed, padding, padded, zero_bytes, be32, be64, bytes_of, sha256}
 use Rattle.digest.specs.Parts.{finished}
 
 pub hashed-none : (h p : List ℕ) → h ≡ hashed h 0 p
@@ -68,6 +68,22 @@ be64-mod n =
     let e7 : y % 256 ≡ 8 * n % 256 = omega arith in
     cc
 
+-- the bytes of `tail`, after the rest of the message, the byte 0x80 and the number of bits were put in
+pub pad_is : (rest : List ℕ) (total at at2 m end : ℕ) (tail0 tail1 tail2 tail3 : List ℕ) → tail0 ≡ replicate 128 0 → at2 ≡ at + 1 → m ≡ at2 + zero_bytes total → m ≤ 120 →
+    take at tail1 ≡ rest → drop at tail1 ≡ drop at tail0 → take at2 tail2 ≡ take at tail1 ++ 0x80 ∷ [] → drop at2 tail2 ≡ drop at2 tail1 →
+    take end tail3 ≡ take m tail2 ++ be64 (8 * total) → take end tail3 ≡ rest ++ padding total
+unfolding padding
+pad_is rest total at at2 m end tail0 tail1 tail2 tail3 e0 en em small t1 d1 t2 d2 e3 =
+    let z : ℕ = zero_bytes total in
+    let clear : drop at2 tail2 ≡ replicate (128 - at2) 0 =
+    d2 ∙ ap (λ k. drop k tail1) en ∙ sym (drop-drop 1 at tail1) ∙ ap (drop 1) d1 ∙ drop-drop 1 at tail0 ∙ ap (λ k. drop k tail0) (sym en) ∙ ap (drop at2) e0 ∙ drop-replicate at2 128 0 in
+    let front : take m tail2 ≡ (rest ++ 0x80 ∷ []) ++ replicate z 0 =
+    ap (λ k. take k tail2) em ∙ take-add at2 z tail2
+    ∙ ap₂ ◌++◌ (t2 ∙ ap (λ r. r ++ 0x80 ∷ []) t1) (ap (take z) clear ∙ take-replicate z (128 - at2) 0 (omega arith)) in
+    e3 ∙ ap (λ r. r ++ be64 (8 * total)) front
+    ∙ append_assoc (rest ++ 0x80 ∷ []) (replicate z 0) (be64 (8 * total))
+    ∙ append_assoc rest (0x80 ∷ []) (replicate z 0 ++ be64 (8 * total))
+
 cleared : (rest : List ℕ) (left : ℕ) → 128 - length rest ≡ suc left → rest ++ drop (length rest) (replicate 128 0) ≡ rest ++ 0 ∷ replicate left 0
 cleared rest left e = ap (λ v. rest ++ v) (drop-replicate (length rest) 128 0 ∙ ap (λ k. replicate k 0) e)
 
@@ -76,10 +92,10 @@ filled_up rest left z m em le =
     ap (λ k. take k (rest ++ 0x80 ∷ replicate left 0)) em ∙ take-append-add rest (0x80 ∷ replicate left 0) (suc z) ∙ ap (λ r. rest ++ 0x80 ∷ r) (take-replicate z left 0 le)
 
 -- the bytes of a space, after the rest of the message, the byte 0x80 and the number of bits were put in
-pub pad_is : (rest copied space eight : List ℕ) (total left m : ℕ) → copied ≡ rest → space ≡ replicate 128 0 → eight ≡ be64 (8 * total) → 128 - length rest ≡ suc left →
+pub padded_space : (rest copied space eight : List ℕ) (total left m : ℕ) → copied ≡ rest → space ≡ replicate 128 0 → eight ≡ be64 (8 * total) → 128 - length rest ≡ suc left →
     m ≡ length rest + suc (zero_bytes total) → zero_bytes total ≤ left → take m (slice_set (copied ++ drop (length rest) space) (length rest) 0x80) ++ eight ≡ rest ++ padding total
 unfolding padding
-pad_is rest copied space eight total left m ec es e8 el em le =
+padded_space rest copied space eight total left m ec es e8 el em le =
     let n : ℕ = length rest in
     let z : ℕ = zero_bytes total in
     let was : copied ++ drop n space ≡ rest ++ 0 ∷ replicate left 0 = ap₂ (λ u v. u ++ drop n v) ec es ∙ cleared rest left el in
@@ -87,6 +103,21 @@ pad_is rest copied space eight total left m ec es e8 el em le =
     ap (λ u. slice_set u n 0x80) was ∙ set_at rest 0 (replicate left 0) 0x80 n refl in
     let front : take m (slice_set (copied ++ drop n space) n 0x80) ≡ rest ++ 0x80 ∷ replicate z 0 = ap (take m) marked ∙ filled_up rest left z m em le in
     ap₂ ◌++◌ front e8 ∙ append_assoc rest (0x80 ∷ replicate z 0) (be64 (8 * total))
+
+-- the byte that is put in before the copy is the byte that is put in after it
+pub marked_first : (copied space : List ℕ) (n mark : ℕ) → length copied ≡ n → copied ++ drop n (slice_set space n mark) ≡ slice_set (copied ++ drop n space) n mark
+marked_first copied space n mark e =
+    let at : n ≡ n + 0 = omega arith in
+    let none : 0 ≡ n - n = omega arith in
+    ap (λ r. copied ++ r) (ap (λ k. drop n (slice_set space k mark)) at ∙ drop-set-add n space 0 mark ∙ ap (λ k. slice_set (drop n space) k mark) none)
+    ∙ sym (set-append_right copied (drop n space) n n mark e (omega arith))
+
+bytes-append : (xs ys : List ℕ) → bytes_of (xs ++ ys) ≡ bytes_of xs ++ bytes_of ys
+bytes-append [] ys = refl
+bytes-append (x ∷ xs) ys = ap (λ r. be32 x ++ r) (bytes-append xs ys)
+
+pub bytes-more : (xs : List ℕ) (i : ℕ) → i < length xs → bytes_of (take (i + 1) xs) ≡ bytes_of (take i xs) ++ be32 (slice_index xs i)
+bytes-more xs i h = ap bytes_of (take_more xs i 0 h) ∙ bytes-append (take i xs) (slice_index xs i ∷ [])
 
 pub length-bytes : (xs : List ℕ) → length (bytes_of xs) ≡ 4 * length xs
 length-bytes [] = refl

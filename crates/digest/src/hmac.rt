@@ -35,7 +35,11 @@ fn key_block(key: &[u8]) -> [u8; 64]
 fn masked(block: [u8; 64], mask: u8) -> [u8; 64]
     ensures { result ≡ map (bit_xor mask) block }
 {
-    block.map(|byte| mask ^ byte)
+    let mut out = block;
+    for byte in out.iter_mut() {
+        *byte = mask ^ *byte;
+    }
+    out
 }
 
 /// The hash values after the two blocks that a key is made into.

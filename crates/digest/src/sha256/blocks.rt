@@ -38,8 +38,9 @@ fn pad<'a>(rest: &[u8], total: u64, space: &'a mut [u8; 128]) -> &'a [u8]
     ensures holds { result.now ≡ rest.now ++ padding total }
 {
     let at = rest.len();
-    space[..at].copy_from_slice(rest);
+    // The mark first: right after the zeros, the copy would make the compiled library call memset.
     space[at] = 0x80;
+    space[..at].copy_from_slice(rest);
     let end = if at < 56 { 64 } else { 128 };
     let bits = total.wrapping_mul(8);
     space[end - 8..end].copy_from_slice(&bits.to_be_bytes());

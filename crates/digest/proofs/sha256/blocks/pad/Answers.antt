@@ -1,9 +1,9 @@
 -- The rest, the byte 0x80, zeros and the number of bits.
-use Rattle.std.proofs.Common.{◌≡◌, ℕ, ◌+◌, ◌-◌, ◌*◌, ◌≤◌, suc, List, ◌++◌, length, drop, ap, ◌∙◌, arith}
+use Rattle.std.proofs.Common.{◌≡◌, ℕ, ◌+◌, ◌-◌, ◌*◌, ◌≤◌, suc, List, ◌++◌, length, take, drop, set, ap, ◌∙◌, arith}
 use Rattle.std.proofs.lemmas.List.{length-set, length-append, length-drop, length-replicate}
 use Rattle.std.proofs.lemmas.Slice.{take-put_mid}
 use Rattle.digest.specs.Sha256.{zero_bytes, be64}
-use Rattle.digest.specs.Padding.{pad_is, be64-mod}
+use Rattle.digest.specs.Padding.{padded_space, marked_first, be64-mod}
 use Rattle.digest.proofs.sha256.blocks.pad.Goals as goal
 use Rattle.digest.proofs.sha256.blocks.pad.Goals.{then-at-lt56, else-at-lt56}
 
@@ -20,10 +20,11 @@ returns-clause-holds c =
     let low : 8 ≤ end = elim c.if-at-lt56.branch [ then-at-lt56 w ↦ omega (arith, w.end-is) | else-at-lt56 w ↦ omega (arith, w.end-is) ] in
     let top : end ≤ 128 = elim c.if-at-lt56.branch [ then-at-lt56 w ↦ omega (arith, w.end-is) | else-at-lt56 w ↦ omega (arith, w.end-is) ] in
     let eight : c.copy_from_slice-2.new.self ≡ be64 (8 * total) = c.copy_from_slice-2.ensures.after ∙ c.to_be_bytes.ensures ∙ be64-mod total in
-    let l1 = length-set (copied ++ drop n space) n 128 in
-    let l2 = length-append copied (drop n space) in
-    let l3 = length-drop n space in
+    let l1 = length-set space n 128 in
+    let l2 = length-append copied (drop n (set space n 128)) in
+    let l3 = length-drop n (set space n 128) in
     let l4 : length copied ≡ n = ap length c.copy_from_slice.ensures.after in
     let l5 : length space ≡ 128 = ap length c.requires.clear ∙ length-replicate {A = ℕ} 128 0 in
     take-put_mid (end - 8) _ _ c.copy_from_slice-2.new.self end (omega (arith, ap length eight, low)) (omega (arith, l1, l2, l3, l4, l5, top))
-    ∙ pad_is rest copied space _ total (127 - n) (end - 8) c.copy_from_slice.ensures.after c.requires.clear eight (omega (arith, c.requires.left)) place (omega (arith, place, top))
+    ∙ ap (λ s. take (end - 8) s ++ c.copy_from_slice-2.new.self) (marked_first copied space n 128 l4)
+    ∙ padded_space rest copied space _ total (127 - n) (end - 8) c.copy_from_slice.ensures.after c.requires.clear eight (omega (arith, c.requires.left)) place (omega (arith, place, top))

@@ -4,4 +4,4 @@ use Rattle.digest.proofs.BitLaws.{ch-is}
 use Rattle.digest.proofs.sha256.functions.choose.Goals as goal
 
 pub returns : goal.returns
-returns c = ch-is c.args.x c.args.y c.args.z (omega arith) (omega arith) (omega arith)
+returns c = ch-is c.args.x c.args.y c.args.z (omega arith) (omega arith)
