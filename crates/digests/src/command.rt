@@ -92,9 +92,11 @@ fn chain_reply<D: KeyedDigest>(
     ensures { IfOk result (λ s. string_bytes s ≡ chain_reply D.size D.keyed count key.now link.old total.old) }
 {
     let answer = digest.chain(key, count, link, total);
-    let last = reply(heap, answer, link)?;
+    let mut line = reply(heap, answer, link)?;
     let sum = hex::encode(heap, total)?;
-    format!(in heap; "{last} {sum}")
+    // In place: `format!` would hold the last link twice.
+    write!(line, " {sum}")?;
+    Ok(line)
 }
 
 /// `NAME-chain COUNT KEY LINK TOTAL`
