@@ -8,7 +8,12 @@ use std::alloc::{AllocError, Global};
 fn has_capital(digits: &[u8]) -> bool
     ensures { result ≡ has_capital digits.now }
 {
-    digits.iter().any(|b| (b'A'..=b'F').contains(b))
+    // All of them, and not `any`, which ends at the first: so the compiler looks at many at once.
+    let mut found = false;
+    for b in digits {
+        found |= (b'A'..=b'F').contains(b);
+    }
+    found
 }
 
 /// The bytes that digits write. No letter is a capital here, though the library would take it.
