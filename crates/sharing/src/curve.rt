@@ -37,6 +37,7 @@ fn secret_fits<D: KeyedDigest>(digest: &D, fixing: &SoundShares<'_, '_>, secret:
     if fixing.shares.len() < 2 {
         return true;
     }
+    // Too short to hold the digest: so much is known before a value is filled.
     if fixing.length < 4 {
         return false;
     }
